@@ -1,0 +1,61 @@
+-- `dual_fix`: an integer variable that no row and not the objective keeps from one of its finite bounds is fixed there.
+use Prim.Native.Nat.{ℕ, zero, suc}
+use mathlib.Core.Bool.{Bool, true, false, not, _&&_, _||_}
+use mathlib.Core.List.{List, [], _∷_}
+use lib.ListN.{length, getD, set}
+use lib.Ieee.{Float, le}
+use Rattle.floats.specs.Num.{choose, gt, ge, 0f, isFinite}
+use Rattle.tolerances.specs.Tol.{Term, at}
+use Rattle.definition.specs.Model.{Model, isInt, Row}
+use Rattle.definition.specs.Work.{Work, fixed}
+use Rattle.definition.specs.Bounds.{fix}
+
+-- which variables a row's terms keep from moving: ifPos of a positive coefficient, ifNeg of any other, a zero among them
+unfoldable pub blockTerms : Bool → Bool → List Term → List Bool → List Bool
+blockTerms ifPos ifNeg [] bad = bad
+blockTerms ifPos ifNeg (t ∷ ts) bad =
+    blockTerms ifPos ifNeg ts (choose (choose (gt (t .coeff) 0f) ifPos ifNeg) (set bad (t .var) true) bad)
+
+-- from falling, and from rising
+unfoldable pub badDec : List Row → List Bool → List Bool
+badDec [] bad = bad
+badDec (row ∷ rows) bad =
+    badDec rows (choose (row .alive) (blockTerms (isFinite (row .lo)) (isFinite (row .hi)) (row .terms) bad) bad)
+
+unfoldable pub badInc : List Row → List Bool → List Bool
+badInc [] bad = bad
+badInc (row ∷ rows) bad =
+    badInc rows (choose (row .alive) (blockTerms (isFinite (row .hi)) (isFinite (row .lo)) (row .terms) bad) bad)
+
+unfoldable pub noneBad : ℕ → List Bool
+noneBad zero = []
+noneBad (suc n) = false ∷ noneBad n
+
+module _ (M : Model) where
+  unfoldable pub mayFall : List Bool → ℕ → Work → Bool
+  mayFall dec v w = ge (at (M .obj) v) 0f && not (getD dec v true) && isFinite (at (w .wlo) v)
+
+  unfoldable pub mayRise : List Bool → ℕ → Work → Bool
+  mayRise inc v w = le (at (M .obj) v) 0f && not (getD inc v true) && isFinite (at (w .whi) v)
+
+  unfoldable pub dualVar : List Bool → List Bool → ℕ → Work → Bool → Work × Bool
+  dualVar dec inc v w changed =
+      choose (fixed w v || not (isInt M v))
+          ((w, changed))
+          (choose (mayFall dec v w)
+              ((fix M v (at (w .wlo) v) w, true))
+              (choose (mayRise inc v w)
+                  ((fix M v (at (w .whi) v) w, true))
+                  ((w, changed))))
+
+  unfoldable pub dualFrom : ℕ → List Bool → List Bool → ℕ → Work → Bool → Work × Bool
+  dualFrom zero dec inc v w changed = (w, changed)
+  dualFrom (suc n) dec inc v w changed =
+      let s = dualVar dec inc v w changed in
+      dualFrom n dec inc (suc v) (s .0) (s .1)
+
+  -- the state after, and whether something changed
+  unfoldable pub dualFix : Work → Work × Bool
+  dualFix w =
+      let n = length (M .lower) in
+      dualFrom n (badDec (w .rows) (noneBad n)) (badInc (w .rows) (noneBad n)) 0 w false

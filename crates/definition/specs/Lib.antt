@@ -1,0 +1,23 @@
+-- The presolver as a definition, file by file as the Rust; the refusals; the twelve worked cases.
+pub mod Params
+pub mod Model
+pub mod Work
+pub mod Activities
+pub mod Marks
+pub mod Bounds
+pub mod Folds
+pub mod Singles
+pub mod Sides
+pub mod Forcing
+pub mod Implied
+pub mod Wave
+pub mod Rewrites
+pub mod Bindings
+pub mod Tighten
+pub mod Dual
+pub mod Begin
+pub mod Rounds
+pub mod Emit
+pub mod Presolve
+pub mod Refusal
+pub mod Cases

@@ -1,0 +1,31 @@
+-- src/presolve/mod.rs, the fixpoint of `presolve`: waves, then in Mip the coefficient and the dual step, for at most so many rounds.
+use Prim.Native.Nat.{ℕ, zero, suc, _-_}
+use mathlib.Core.Bool.{Bool, true, false, _||_}
+use lib.Dec.{eqb}
+use Rattle.floats.specs.Num.{choose}
+use Rattle.definition.specs.Params.{maxWaves}
+use Rattle.definition.specs.Model.{Model, isMip}
+use Rattle.definition.specs.Work.{Work, Step, stop, next, _>>=_}
+use Rattle.definition.specs.Wave.{waves}
+use Rattle.definition.specs.Tighten.{tightenBinaryCoeffs}
+use Rattle.definition.specs.Dual.{dualFix}
+
+module _ (M : Model) where
+  unfoldable pub dualStep : Work → Work × Bool
+  dualStep w = let d = dualFix M w in choose (eqb (M .mode) 2) d (w, false)
+
+  -- the state after both steps, and whether one of them changed something
+  unfoldable pub afterWaves : Work → Work × Bool
+  afterWaves w =
+      let s = tightenBinaryCoeffs M w in
+      let d = dualStep (s .0) in
+      choose (isMip M) (d .0, s .1 || d .1) (w, false)
+
+  -- at most n rounds more. The waves are capped over all rounds together; both steps run at the cap too, and what is queued then is abandoned
+  unfoldable pub rounds : ℕ → Work → Step
+  rounds zero w = next w
+  rounds (suc n) w =
+      waves M (maxWaves (M .params) - w .counts .passes) w >>= λ w1.
+      let s = afterWaves w1 in
+      let again = rounds n (s .0) in
+      choose (s .1) again (next (s .0))
