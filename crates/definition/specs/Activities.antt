@@ -27,7 +27,7 @@ module _ (M : Model) where
         absL = choose (isFinite cmin) (act .absL ⊕ abs cmin) (act .absL);
         absU = choose (isFinite cmax) (act .absU ⊕ abs cmax) (act .absU);
         slackL = act .slackL ⊕ abs a ⊗ boundTol M w (t .var) (lt a 0f);
-        slackU = act .slackU ⊕ abs a ⊗ boundTol M w (t .var) (gt a 0f)
+        slackU = act .slackU ⊕ abs a ⊗ boundTol M w (t .var) (gt a 0f);
       }
 
   unfoldable pub activityFrom : Work → List Float → List Float → Activity → List Term → Activity

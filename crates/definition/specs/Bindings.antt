@@ -34,7 +34,7 @@ module _ (M : Model) where
         binaries = bins;
         written = wr;
         rewritten = re;
-        kept = maxf (rewriteRoom M wr re (fixedBesides w row bins)) (old .kept)
+        kept = maxf (rewriteRoom M wr re (fixedBesides w row bins)) (old .kept);
       }
 
   -- the relaxation to add to bp: what the binding keeps more than before

@@ -31,45 +31,45 @@ module _ (M : Model) where
   unfoldable pub upperInt : ℕ → Float → Work → Step
   upperInt v qi w =
       choose (lt qi (at (w .ehi) v ⊖ ½f))
-          (choose (lt qi (at (w .wlo) v ⊖ ½f))
-              (stop (w .counts))
-              (next (markTightened v (withBounds (w .wlo) (set (w .whi) v (minf (at (w .whi) v) qi)) (w .elo) (set (w .ehi) v qi) w))))
-          (next w)
+      (choose (lt qi (at (w .wlo) v ⊖ ½f))
+      (stop (w .counts))
+      (next (markTightened v (withBounds (w .wlo) (set (w .whi) v (minf (at (w .whi) v) qi)) (w .elo) (set (w .ehi) v qi) w))))
+      (next w)
 
   -- any other variable's stays a working bound. A crossing within the bound's tolerance is left alone
   unfoldable pub upperReal : ℕ → Float → Work → Step
   upperReal v nq w =
       choose (lt nq (at (w .whi) v ⊖ M .params .improveRel ⊗ maxf (abs nq) 1f))
-          (choose (lt nq (at (w .wlo) v))
-              (choose (gt (at (w .wlo) v ⊖ nq) (boundTol M w v false)) (stop (w .counts)) (next w))
-              (next (markTightened v (withBounds (w .wlo) (set (w .whi) v nq) (w .elo) (w .ehi) w))))
-          (next w)
+      (choose (lt nq (at (w .wlo) v))
+      (choose (gt (at (w .wlo) v ⊖ nq) (boundTol M w v false)) (stop (w .counts)) (next w))
+      (next (markTightened v (withBounds (w .wlo) (set (w .whi) v nq) (w .elo) (w .ehi) w))))
+      (next w)
 
   unfoldable pub tightenUpper : ℕ → Float → Float → Work → Step
   tightenUpper v q relax w =
       choose (isFinite q)
-          (choose (isInt M v) (upperInt v (floor (q ⊕ relax)) w) (upperReal v (q ⊕ relax) w))
-          (next w)
+      (choose (isInt M v) (upperInt v (floor (q ⊕ relax)) w) (upperReal v (q ⊕ relax) w))
+      (next w)
 
   -- ---- an implied lower bound
   unfoldable pub lowerInt : ℕ → Float → Work → Step
   lowerInt v qi w =
       choose (gt qi (at (w .elo) v ⊕ ½f))
-          (choose (gt qi (at (w .whi) v ⊕ ½f))
-              (stop (w .counts))
-              (next (markTightened v (withBounds (set (w .wlo) v (maxf (at (w .wlo) v) qi)) (w .whi) (set (w .elo) v qi) (w .ehi) w))))
-          (next w)
+      (choose (gt qi (at (w .whi) v ⊕ ½f))
+      (stop (w .counts))
+      (next (markTightened v (withBounds (set (w .wlo) v (maxf (at (w .wlo) v) qi)) (w .whi) (set (w .elo) v qi) (w .ehi) w))))
+      (next w)
 
   unfoldable pub lowerReal : ℕ → Float → Work → Step
   lowerReal v nq w =
       choose (gt nq (at (w .wlo) v ⊕ M .params .improveRel ⊗ maxf (abs nq) 1f))
-          (choose (gt nq (at (w .whi) v))
-              (choose (gt (nq ⊖ at (w .whi) v) (boundTol M w v true)) (stop (w .counts)) (next w))
-              (next (markTightened v (withBounds (set (w .wlo) v nq) (w .whi) (w .elo) (w .ehi) w))))
-          (next w)
+      (choose (gt nq (at (w .whi) v))
+      (choose (gt (nq ⊖ at (w .whi) v) (boundTol M w v true)) (stop (w .counts)) (next w))
+      (next (markTightened v (withBounds (set (w .wlo) v nq) (w .whi) (w .elo) (w .ehi) w))))
+      (next w)
 
   unfoldable pub tightenLower : ℕ → Float → Float → Work → Step
   tightenLower v q relax w =
       choose (isFinite q)
-          (choose (isInt M v) (lowerInt v (ceil (q ⊖ relax)) w) (lowerReal v (q ⊖ relax) w))
-          (next w)
+      (choose (isInt M v) (lowerInt v (ceil (q ⊖ relax)) w) (lowerReal v (q ⊖ relax) w))
+      (next w)

@@ -145,7 +145,7 @@ model mode xs ls =
       mode = mode;
       feas = ratio 1 (10 ^ 6);
       intTol = ratio 1 (10 ^ 9);
-      params = params
+      params = params;
     }
 
 -- an emitted row: its number, right side and span
@@ -167,43 +167,43 @@ unfoldable pub cases : List Case
 cases =
     -- 1. 2p ≤ 7
     case (model 1 (p ∷ []) (isLe (2 · 0 ∷ []) (# 7) ∷ []))
-      (done (record { counts = counts 1 1 0 0 2; lower = -0f ∷ []; upper = # 3 ∷ []; emitted = []; terms = []; kept = 0 ∷ []; flag = true }))
+    (done (record { counts = counts 1 1 0 0 2; lower = -0f ∷ []; upper = # 3 ∷ []; emitted = []; terms = []; kept = 0 ∷ []; flag = true }))
     -- 2. 2p ≤ 6: only its tolerance keeps the row
     ∷ case (model 1 (p ∷ []) (isLe (2 · 0 ∷ []) (# 6) ∷ []))
-      (done (record { counts = counts 0 1 0 0 2; lower = -0f ∷ []; upper = # 3 ∷ []; emitted = writtenRow 0 (# 6) 0 1 ∷ []; terms = []; kept = []; flag = true }))
+    (done (record { counts = counts 0 1 0 0 2; lower = -0f ∷ []; upper = # 3 ∷ []; emitted = writtenRow 0 (# 6) 0 1 ∷ []; terms = []; kept = []; flag = true }))
     -- 3. 2p = 7
     ∷ case (model 1 (p ∷ []) (isEq (2 · 0 ∷ []) (# 7) ∷ [])) (infeasible (counts 0 0 0 0 1))
     -- 4. 2p ≤ 1: no fixed variable is counted
     ∷ case (model 1 (p ∷ []) (isLe (2 · 0 ∷ []) (# 1) ∷ []))
-      (done (record { counts = counts 1 1 0 0 2; lower = -0f ∷ []; upper = # 0 ∷ []; emitted = []; terms = []; kept = 0 ∷ []; flag = true }))
+    (done (record { counts = counts 1 1 0 0 2; lower = -0f ∷ []; upper = # 0 ∷ []; emitted = []; terms = []; kept = 0 ∷ []; flag = true }))
     -- 5. u + v ≥ 2
     ∷ case (model 1 (u ∷ v ∷ []) (isGe (1 · 0 ∷ 1 · 1 ∷ []) (# 2) ∷ []))
-      (done (record { counts = counts 1 0 2 0 2; lower = # 1 ∷ # 1 ∷ []; upper = # 1 ∷ # 1 ∷ []; emitted = []; terms = []; kept = 0 ∷ []; flag = true }))
+    (done (record { counts = counts 1 0 2 0 2; lower = # 1 ∷ # 1 ∷ []; upper = # 1 ∷ # 1 ∷ []; emitted = []; terms = []; kept = 0 ∷ []; flag = true }))
     -- 6. u + v ≥ 1
     ∷ case (model 1 (u ∷ v ∷ []) (isGe (1 · 0 ∷ 1 · 1 ∷ []) (# 1) ∷ []))
-      (done (record { counts = counts 0 0 0 0 1; lower = -0f ∷ -0f ∷ []; upper = # 1 ∷ # 1 ∷ []; emitted = writtenRow 0 (# 1) 0 2 ∷ []; terms = []; kept = []; flag = false }))
+    (done (record { counts = counts 0 0 0 0 1; lower = -0f ∷ -0f ∷ []; upper = # 1 ∷ # 1 ∷ []; emitted = writtenRow 0 (# 1) 0 2 ∷ []; terms = []; kept = []; flag = false }))
     -- 7. u + v ≥ 3
     ∷ case (model 1 (u ∷ v ∷ []) (isGe (1 · 0 ∷ 1 · 1 ∷ []) (# 3) ∷ [])) (infeasible (counts 0 0 0 0 1))
     -- 8. 3u + w ≤ 10: rewritten
     ∷ case (model 1 (u ∷ w ∷ []) (isLe (3 · 0 ∷ 1 · 1 ∷ []) (# 10) ∷ []))
-      (done
-      (record {
-        counts = counts 0 0 0 1 2;
-        lower = -0f ∷ -0f ∷ [];
-        upper = # 1 ∷ # 8 ∷ [];
-        emitted = rewrittenRow 0 (bits 0x4020_0000_8637_bd7c) 0 2 ∷ [];
-        terms = term 0 (bits 0x3ff0_0004_31bd_ebe0) ∷ term 1 (bits 0x3ff0_0000_0000_0000) ∷ [];
-        kept = 0 ∷ [];
-        flag = true
-      }))
+    (done
+    (record {
+      counts = counts 0 0 0 1 2;
+      lower = -0f ∷ -0f ∷ [];
+      upper = # 1 ∷ # 8 ∷ [];
+      emitted = rewrittenRow 0 (bits 0x4020_0000_8637_bd7c) 0 2 ∷ [];
+      terms = term 0 (bits 0x3ff0_0004_31bd_ebe0) ∷ term 1 (bits 0x3ff0_0000_0000_0000) ∷ [];
+      kept = 0 ∷ [];
+      flag = true;
+    }))
     -- 9. case 5 in mode 0
     ∷ case (model 0 (u ∷ v ∷ []) (isGe (1 · 0 ∷ 1 · 1 ∷ []) (# 2) ∷ []))
-      (done (record { counts = counts 0 2 0 0 2; lower = # 0 ∷ # 0 ∷ []; upper = # 1 ∷ # 1 ∷ []; emitted = writtenRow 0 (# 2) 0 2 ∷ []; terms = []; kept = []; flag = false }))
+    (done (record { counts = counts 0 2 0 0 2; lower = # 0 ∷ # 0 ∷ []; upper = # 1 ∷ # 1 ∷ []; emitted = writtenRow 0 (# 2) 0 2 ∷ []; terms = []; kept = []; flag = false }))
     -- 10. an Integer 0.4 to 0.6, no rows
     ∷ case (model 1 (integer (ratio 4 10) (ratio 6 10) ∷ []) []) (infeasible (counts 0 0 0 0 0))
     -- 11. an empty Le, right side -1e-7
     ∷ case (model 1 [] (isLe [] (round binary64 true 1 (10 ^ 7)) ∷ []))
-      (done (record { counts = counts 1 0 0 0 0; lower = []; upper = []; emitted = []; terms = []; kept = []; flag = true }))
+    (done (record { counts = counts 1 0 0 0 0; lower = []; upper = []; emitted = []; terms = []; kept = []; flag = true }))
     -- 12. an empty Le, right side -1
     ∷ case (model 1 [] (isLe [] (round binary64 true 1 1) ∷ [])) (infeasible (counts 0 0 0 0 0))
     ∷ []

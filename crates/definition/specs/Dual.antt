@@ -41,12 +41,12 @@ module _ (M : Model) where
   unfoldable pub dualVar : List Bool → List Bool → ℕ → Work → Bool → Work × Bool
   dualVar dec inc v w changed =
       choose (fixed w v || not (isInt M v))
-          ((w, changed))
-          (choose (mayFall dec v w)
-              ((fix M v (at (w .wlo) v) w, true))
-              (choose (mayRise inc v w)
-                  ((fix M v (at (w .whi) v) w, true))
-                  ((w, changed))))
+      ((w, changed))
+      (choose (mayFall dec v w)
+      ((fix M v (at (w .wlo) v) w, true))
+      (choose (mayRise inc v w)
+      ((fix M v (at (w .whi) v) w, true))
+      ((w, changed))))
 
   unfoldable pub dualFrom : ℕ → List Bool → List Bool → ℕ → Work → Bool → Work × Bool
   dualFrom zero dec inc v w changed = (w, changed)

@@ -67,7 +67,7 @@ module _ (M : Model) where
       record {
         emitted = o .emitted ++ (record { row = r; rewritten = true; rhs = b; from = length (o .terms); upto = length (o .terms) + length ts } ∷ []);
         terms = o .terms ++ ts;
-        kept = o .kept ++ (r ∷ [])
+        kept = o .kept ++ (r ∷ []);
       }
 
   -- a row with terms left. Rewritten, it gets its folded terms back, but not its explicit zeros; without a finite bound it goes out as written
@@ -75,10 +75,10 @@ module _ (M : Model) where
   outRow r row o =
       let b = rewrittenBound M row r in
       choose (row .touched)
-          (choose (isFinite b)
-              (emitRewritten r b (sortTerms (row .terms ++ row .folded)) o)
-              (emitWritten r o))
-          (emitWritten r o)
+      (choose (isFinite b)
+      (emitRewritten r b (sortTerms (row .terms ++ row .folded)) o)
+      (emitWritten r o))
+      (emitWritten r o)
 
   unfoldable pub outEmpty : ℕ → Out → Step → Final
   outEmpty r o (stop k) = fails k

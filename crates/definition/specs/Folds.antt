@@ -30,7 +30,7 @@ foldTerm w i t row =
       folded = row .folded ++ (t ∷ []);
       alive = row .alive;
       touched = row .touched;
-      binding = row .binding
+      binding = row .binding;
     }
 
 -- the place looked at, and the row: where a term leaves, the one that moved into its place is looked at next. A zero coefficient leaves with no fold
@@ -84,8 +84,8 @@ module _ (M : Model) where
   relaxWith w row (some b) =
       let kept = rewriteRoom (b .written) (b .rewritten) (fixedBesides w row (b .binaries)) in
       choose (gt kept (b .kept))
-          (withBinding (some (withKept kept b)) (widened kept (b .kept) row))
-          (row)
+      (withBinding (some (withKept kept b)) (widened kept (b .kept) row))
+      (row)
 
   unfoldable pub relaxBinding : Work → Row → Row
   relaxBinding w row = relaxWith w row (row .binding)
@@ -101,5 +101,5 @@ module _ (M : Model) where
   foldFixed r w row =
       let row1 = foldLoop (length (row .terms)) w (0, row) .1 in
       choose (ltb (length (row .folded)) (length (row1 .folded)))
-          (holdRewrites r w (relaxBinding w row1))
-          (row1)
+      (holdRewrites r w (relaxBinding w row1))
+      (row1)

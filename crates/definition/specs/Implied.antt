@@ -31,8 +31,8 @@ module _ (M : Model) where
       let mag = rhsMag row b ⊕ maxf (m ⊖ finiteAbs c) 0f ⊕ abs (b ⊖ rest) ⊕ row .foldScale in
       let relax = (budget M r mag ⊕ ROUNDOFF-FLOOR ⊗ m ⊕ k) ⊘ abs a in
       choose (choose (gt a 0f) upper (not upper))
-          (tightenUpper M (t .var) q relax w)
-          (tightenLower M (t .var) q relax w)
+      (tightenUpper M (t .var) q relax w)
+      (tightenLower M (t .var) q relax w)
 
   -- both parts of the term are taken before either side; the activity stays the one from before the loop
   unfoldable pub impliedTerm : ℕ → Row → Activity → Term → Work → Step
@@ -41,13 +41,13 @@ module _ (M : Model) where
       let cmin = rangeMin a (at (w .wlo) (t .var)) (at (w .whi) (t .var)) in
       let cmax = rangeMax a (at (w .wlo) (t .var)) (at (w .whi) (t .var)) in
       let first : Step =
-        choose (isFinite (row .hi))
-            (implied true r row (row .hi) (wact .absL) (wact .slackL) cmin t (restOf (wact .l) (wact .ninfL) cmin) w)
-            (next w) in
+      choose (isFinite (row .hi))
+      (implied true r row (row .hi) (wact .absL) (wact .slackL) cmin t (restOf (wact .l) (wact .ninfL) cmin) w)
+      (next w) in
       first >>= λ w1.
       choose (isFinite (row .lo))
-          (implied false r row (row .lo) (wact .absU) (wact .slackU) cmax t (restOf (wact .u) (wact .ninfU) cmax) w1)
-          (next w1)
+      (implied false r row (row .lo) (wact .absU) (wact .slackU) cmax t (restOf (wact .u) (wact .ninfU) cmax) w1)
+      (next w1)
 
   unfoldable pub impliedBounds : ℕ → Row → Activity → List Term → Work → Step
   impliedBounds r row wact [] w = next w

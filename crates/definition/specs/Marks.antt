@@ -11,8 +11,8 @@ use Rattle.definition.specs.Work.{Work, withMarks, hasTerm, trivial}
 unfoldable pub markRow : ℕ → Work → Work
 markRow r w =
     choose (getD (w .dirty) r true)
-        (withMarks (w .dirty) (set (w .coeffDirty) r true) (w .queue) w)
-        (withMarks (set (w .dirty) r true) (set (w .coeffDirty) r true) (w .queue ++ (r ∷ [])) w)
+    (withMarks (w .dirty) (set (w .coeffDirty) r true) (w .queue) w)
+    (withMarks (set (w .dirty) r true) (set (w .coeffDirty) r true) (w .queue ++ (r ∷ [])) w)
 
 module _ (M : Model) where
   -- whether row r is adjacent to v, the Rust's `adj_rows`: a row at work that has v as written, with a zero coefficient or folded out since too

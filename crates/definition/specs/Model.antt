@@ -109,7 +109,7 @@ asWritten M r =
       folded = [];
       alive = true;
       touched = false;
-      binding = none
+      binding = none;
     }
 
 -- `Row::rhs_mag`: the bound as written is the bound and the shift of the folded terms

@@ -23,7 +23,7 @@ params =
       coeffTightenRowCap = 2;
       coeffTightenShortRow = 16;
       maxPasses = 10;
-      maxRounds = 3
+      maxRounds = 3;
     }
 
 -- each literal's float is the one nearest to its decimal

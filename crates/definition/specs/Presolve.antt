@@ -32,8 +32,8 @@ module _ (M : Model) where
   unfoldable pub presolve : Answer
   presolve =
       choose (crossed (M .lower) (M .upper))
-          (infeasible (counts 0 0 0 0 0))
-          (afterRounding (roundFrom M (length (M .lower)) 0 (bounds (M .lower) (M .upper))))
+      (infeasible (counts 0 0 0 0 0))
+      (afterRounding (roundFrom M (length (M .lower)) 0 (bounds (M .lower) (M .upper))))
 
 -- `reduced_model`: the reduced model, or none, to solve the model as written
 unfoldable pub reducedModel : Answer → Option Reduced

@@ -22,8 +22,8 @@ module _ (M : Model) where
   unfoldable pub emptyRowCheck : ℕ → Row → Work → Step
   emptyRowCheck r row w =
       choose (violated (M .feas) (opOf M r) (written M r) (rhsOf M r) (fixedValue w))
-          (stop (w .counts))
-          (next (dropRow r row w))
+      (stop (w .counts))
+      (next (dropRow r row w))
 
   unfoldable pub roomAt : ℕ → Row → Float → Float → Float
   roomAt r row a b = budget M r (finiteMag row b) ⊘ abs a
@@ -58,8 +58,8 @@ module _ (M : Model) where
   unfoldable pub singletonBounds : ℕ → Row → ℕ → Float → Float → Float → Work → Step
   singletonBounds r row v a blo bhi w =
       choose (isInt M v)
-          (singletonInt r row v a blo bhi w)
-          (choose (singletonMisses r row v a blo bhi w) (stop (w .counts)) (next w))
+      (singletonInt r row v a blo bhi w)
+      (choose (singletonMisses r row v a blo bhi w) (stop (w .counts)) (next w))
 
   -- whether the emitted bounds, with their tolerance, meet each side of the row within its whole tolerance less round-off
   unfoldable pub lowerMeets : Row → ℕ → Float → Float → Work → Bool

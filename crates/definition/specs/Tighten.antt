@@ -31,8 +31,8 @@ setCoeff i v a row = withTerms (set (row .terms) i (term v a)) row
 unfoldable pub queued : ℕ → Work → Work
 queued r w =
     choose (getD (w .dirty) r true)
-        (w)
-        (withMarks (set (w .dirty) r true) (w .coeffDirty) (w .queue ++ (r ∷ [])) w)
+    (w)
+    (withMarks (set (w .dirty) r true) (w .coeffDirty) (w .queue ++ (r ∷ [])) w)
 
 module _ (M : Model) where
   -- strictly binary in the emitted bounds, as numbers: minus zero is a zero
@@ -74,7 +74,7 @@ module _ (M : Model) where
       let w1 = queued r (s .work) in
       let back : Rewriting = record { row = givenBack M r w1; act = s .act; work = w1; changed = true; broke = true } in
       let on : Rewriting =
-        record { row = withTouched true row1; act = actAfter f (t .coeff) x (s .act); work = withCounts (rewrote (w1 .counts)) w1; changed = true; broke = false } in
+      record { row = withTouched true row1; act = actAfter f (t .coeff) x (s .act); work = withCounts (rewrote (w1 .counts)) w1; changed = true; broke = false } in
       let done : Rewriting = choose (givesBack row1) back on in
       choose (s .broke || eqb (rewrites x) 0) s done
 
@@ -92,9 +92,9 @@ module _ (M : Model) where
       let act = activity M w row true in
       let nz = vacuousRoom f row act in
       choose (spared row (eligible f nz w row act (row .terms) 0))
-          ((w, changed))
-          (let s = rewriteLoop (length (row .terms)) f nz r 0 (record { row = row; act = act; work = w; changed = changed; broke = false }) in
-        (withRow r (s .row) (s .work), s .changed))
+      ((w, changed))
+      (let s = rewriteLoop (length (row .terms)) f nz r 0 (record { row = row; act = act; work = w; changed = changed; broke = false }) in
+      (withRow r (s .row) (s .work), s .changed))
 
   unfoldable pub tightenBy : Form → ℕ → Row → Work → Bool → Work × Bool
   tightenBy leForm r row w changed = tightenForm leForm r row w changed

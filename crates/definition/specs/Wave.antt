@@ -25,14 +25,14 @@ module _ (M : Model) where
       let wact = activity M w row true in
       let e = activity M w row false in
       choose (unreachable M r row wact)
-          (stop (w .counts))
-          (choose (forcesMin M r row wact e w)
-              (next (dropRow r row (fixAll M true w (row .terms) w)))
-              (choose (forcesMax M r row wact e w)
-                  (next (dropRow r row (fixAll M false w (row .terms) w)))
-                  (choose (redundant M row wact e)
-                      (next (dropRow r row w))
-                      (impliedBounds M r row wact (row .terms) w))))
+      (stop (w .counts))
+      (choose (forcesMin M r row wact e w)
+      (next (dropRow r row (fixAll M true w (row .terms) w)))
+      (choose (forcesMax M r row wact e w)
+      (next (dropRow r row (fixAll M false w (row .terms) w)))
+      (choose (redundant M row wact e)
+      (next (dropRow r row w))
+      (impliedBounds M r row wact (row .terms) w))))
 
   unfoldable pub byCount : ℕ → Row → List Term → Work → Step
   byCount r row [] w = emptyRowCheck M r row w
@@ -45,9 +45,9 @@ module _ (M : Model) where
       let w1 = withMarks (set (w .dirty) r false) (w .coeffDirty) (w .queue) w in
       let row = getD (w1 .rows) r noRow in
       choose (row .alive)
-          (let row1 = foldFixed M r w1 row in
-          byCount r row1 (row1 .terms) (withRow r row1 w1))
-          (next w1)
+      (let row1 = foldFixed M r w1 row in
+      byCount r row1 (row1 .terms) (withRow r row1 w1))
+      (next w1)
 
   unfoldable pub waveRows : List ℕ → Work → Step
   waveRows [] w = next w
