@@ -1,0 +1,25 @@
+use Rattle.space.specs.Blocks.{whi-at}
+use borrow.Author.Needs.{needs}
+use Rattle.space.proofs.floats_at.get_whi.Statement.{statement}
+use Rattle.space.proofs.floats_at.get_whi.Tie as tie
+use Rattle.space.proofs.floats_at.get_whi.Reads as reads
+use Rattle.space.proofs.floats_at.get_whi.Lts as lts
+
+-- src/floats_at.rt:30:7
+add-result : tie.Need-add-result
+add-result c = search needs
+
+-- src/floats_at.rt:30:5
+mul-result : tie.Need-mul-result
+mul-result c = search needs
+
+-- src/floats_at.rt:30:5
+shared-slice-read-result : tie.Need-shared-slice-read-result
+shared-slice-read-result c = search needs
+
+-- src/floats_at.rt:25:1
+returns : tie.Need-returns
+returns c = search whi-at
+
+pub get-whi-spec : {M : Type 1} → statement M
+get-whi-spec = tie.close (tie.spec add-result mul-result shared-slice-read-result returns)

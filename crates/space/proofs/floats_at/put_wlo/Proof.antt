@@ -1,0 +1,25 @@
+use Rattle.space.specs.Blocks.{wlo-put}
+use borrow.Author.Needs.{needs}
+use Rattle.space.proofs.floats_at.put_wlo.Statement.{statement}
+use Rattle.space.proofs.floats_at.put_wlo.Tie as tie
+use Rattle.space.proofs.floats_at.put_wlo.Reads as reads
+use Rattle.space.proofs.floats_at.put_wlo.Lts as lts
+
+-- src/floats_at.rt:21:5
+mul-w : tie.Need-mul-w
+mul-w c = search needs
+
+-- src/floats_at.rt:21:5
+slice-write-w : tie.Need-slice-write-w
+slice-write-w c = search needs
+
+-- src/floats_at.rt:17:1
+same-length : tie.Need-same-length
+same-length c = search needs
+
+-- src/floats_at.rt:17:1
+returns : tie.Need-returns
+returns c = search wlo-put
+
+pub put-wlo-spec : {M : Type 1} → statement M
+put-wlo-spec = tie.close (tie.spec mul-w slice-write-w same-length returns)
