@@ -11,7 +11,7 @@ use Rattle.tolerances.specs.Tol.{at, validRhs}
 use Rattle.definition.specs.Model.{Model, from, upto, nnz, opOf, rhsOf}
 
 -- the lengths of the lent slices: results per variable, per row (emitted rows are five slices: number, mark, right side, both ends of the span) and per term;
--- the working slices, of floats and of numbers
+-- the working slices: floats, numbers, and the rows of each variable
 pub record Lent : Type 0 where
   pub lower : ℕ
   pub upper : ℕ
@@ -25,6 +25,7 @@ pub record Lent : Type 0 where
   pub termCoeff : ℕ
   pub floats : ℕ
   pub numbers : ℕ
+  pub adjacency : ℕ
 
 -- ---- the maxima
 abbrev pub MAX-VARS : ℕ
@@ -41,7 +42,10 @@ unfoldable pub floatsNeeded : ℕ → ℕ → ℕ → ℕ
 floatsNeeded vars rows terms = 4 * vars + 8 * rows + terms
 
 unfoldable pub numbersNeeded : ℕ → ℕ → ℕ → ℕ
-numbersNeeded vars rows terms = 5 * vars + 9 * rows + 3 * terms + 7
+numbersNeeded vars rows terms = 6 + 10 * rows + 3 * vars + 2 * terms
+
+unfoldable pub adjacencyNeeded : ℕ → ℕ → ℕ
+adjacencyNeeded vars terms = vars + 1 + terms
 
 -- whether the test holds of a number below n
 unfoldable pub someBelow : (ℕ → Bool) → ℕ → Bool
@@ -139,7 +143,7 @@ module _ (M : Model) where
       ltb (L .lower) vars || ltb (L .upper) vars
       || ltb (L .emitRow) rows || ltb (L .emitRewritten) rows || ltb (L .emitRhs) rows || ltb (L .emitFrom) rows || ltb (L .emitUpto) rows || ltb (L .kept) rows
       || ltb (L .termIndex) terms || ltb (L .termCoeff) terms
-      || ltb (L .floats) (floatsNeeded vars rows terms) || ltb (L .numbers) (numbersNeeded vars rows terms)
+      || ltb (L .floats) (floatsNeeded vars rows terms) || ltb (L .numbers) (numbersNeeded vars rows terms) || ltb (L .adjacency) (adjacencyNeeded vars terms)
 
 -- the table, in its order
 abbrev pub table : Model → Lent → List (ℕ × Bool)

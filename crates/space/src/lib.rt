@@ -85,3 +85,9 @@ pub struct Shape {
     pub mip: bool,
     pub feas: f64,
 }
+
+// A step that may find the model infeasible.
+pub enum Step {
+    Stop,
+    Next,
+}

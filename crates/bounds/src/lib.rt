@@ -1,0 +1,8 @@
+// src/presolve/work.rs of microlp 0.7.0, changed: requeueing and bounds. The state is what the working
+// slices hold, and each contract says that they show the definition's next state (view, specs/Acts).
+mod bounds;
+mod marks;
+
+pub use bounds::fix;
+pub use marks::mark_row;
+pub use marks::mark_var;

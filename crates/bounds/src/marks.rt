@@ -1,0 +1,56 @@
+// `mark_row` and `mark_var`: requeueing.
+ghost use mathlib.Core.Path.{_≡_};
+ghost use Prim.Native.Nat.{_<_, _≤_};
+ghost use lib.ListN.{length, getD};
+ghost use lib.Seq.{slice};
+ghost use Rattle.definition.specs.Marks.{markRow, markVar};
+ghost use Rattle.space.specs.Store.{numbersOf, HoldsN};
+ghost use Rattle.view.specs.Inv.{Below};
+ghost use Rattle.view.specs.Acts.{ReadyN, ActsN, Any};
+ghost use Rattle.view.specs.Marks.{markAll};
+ghost use Rattle.view.specs.Adjacency.{Adj};
+use space::Shape;
+
+// = markRow
+pub fn mark_row(m: &mut [usize], s: Shape, r: usize)
+    requires { ⌜ (r < s .rows) × HoldsN s (now m) ⌝ }
+    requires { ⌜ ReadyN Any s (numbersOf s (now m)) ⌝ }
+    ensures { λ _. ⌜ ActsN Any s (numbersOf s (now (m .entry))) (numbersOf s (now (m .exit))) (λ M. markRow r) ⌝ }
+{
+    space::put_coeff_dirty(m, s, r, 1);
+    let d = space::get_dirty(m, s, r);
+    if d == 1 {
+        return;
+    }
+    space::put_dirty(m, s, r, 1);
+    let q = space::get_queued(m, s);
+    space::put_queue(m, s, q, r);
+    space::put_queued(m, s, q + 1);
+}
+
+// = markRow over the rows that stand in adj from place a up to e
+fn mark_rows(adj: &[usize], m: &mut [usize], s: Shape, a: usize, e: usize)
+    requires { ⌜ (a ≤ e) × (e ≤ length (now adj)) × HoldsN s (now m) ⌝ }
+    requires { ⌜ Below (s .rows) (slice a e (now adj)) ⌝ }
+    requires { ⌜ ReadyN Any s (numbersOf s (now m)) ⌝ }
+    ensures { λ _. ⌜ ActsN Any s (numbersOf s (now (m .entry))) (numbersOf s (now (m .exit))) (λ M. markAll (slice a e (now (adj .entry)))) ⌝ }
+{
+    let mut i = a;
+    while i < e {
+        let r = adj[i];
+        mark_row(m, s, r);
+        i += 1;
+    }
+}
+
+// = markVar
+pub fn mark_var(adj: &[usize], m: &mut [usize], s: Shape, v: usize)
+    requires { ⌜ (v < s .vars) × HoldsN s (now m) ⌝ }
+    requires { ⌜ ReadyN (Adj (now adj)) s (numbersOf s (now m)) ⌝ }
+    ensures { λ _. ⌜ ActsN (Adj (now (adj .entry))) s (numbersOf s (now (m .entry))) (numbersOf s (now (m .exit))) (λ M. markVar M v) ⌝ }
+{
+    let base = s.vars + 1;
+    let a = base + adj[v];
+    let e = base + adj[v + 1];
+    mark_rows(adj, m, s, a, e);
+}

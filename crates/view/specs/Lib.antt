@@ -1,0 +1,11 @@
+pub mod Call
+pub mod Shows
+pub mod Inv
+pub mod Acts
+pub mod Lists
+pub mod Marks
+pub mod Adjacency
+pub mod Bounds
+pub mod Steps
+pub mod Known
+pub mod Rows

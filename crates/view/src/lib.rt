@@ -1,0 +1,1 @@
+// What the working slices say of the definition's state. No code: see specs/.
