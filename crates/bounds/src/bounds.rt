@@ -1,11 +1,15 @@
 // `fix`, `emit_bounds`, `tighten_upper` and `tighten_lower`: what changes a variable's bounds.
+ghost use mathlib.Core.Path.{_≡_};
 ghost use Prim.Native.Nat.{_<_};
+ghost use lib.ListN.{length, getD};
 ghost use Rattle.definition.specs.Bounds as definition;
 ghost use Rattle.space.specs.Store.{floatsOf, numbersOf, HoldsF, HoldsN};
 ghost use Rattle.view.specs.Acts.{Ready, Acts, Tries, ReadyN, ActsN};
 ghost use Rattle.view.specs.Adjacency.{Adj};
+ghost use Rattle.view.specs.Known.{Bounding};
+ghost use Rattle.bounds.specs.Moves.{EmitsFour, intCode};
 use crate::marks::mark_var;
-use floats::smaller;
+use formulas::Move;
 use space::Shape;
 use space::Step;
 
@@ -33,21 +37,182 @@ fn mark_tightened(adj: &[usize], m: &mut [usize], s: Shape, v: usize)
     mark_var(adj, m, s, v);
 }
 
-// = upperInt
-fn upper_int(adj: &[usize], w: &mut [f64], m: &mut [usize], s: Shape, v: usize, qi: f64) -> Step
+// The four bounds that emitBounds leaves.
+fn put_emitted(w: &mut [f64], s: Shape, v: usize, lo: f64, hi: f64)
+    requires { ⌜ (v < s .vars) × HoldsF s (now w) ⌝ }
+    ensures { λ _. ⌜ EmitsFour v lo hi (floatsOf s (now (w .entry))) (floatsOf s (now (w .exit))) ⌝ }
+{
+    let wlo = space::get_wlo(w, s, v);
+    let whi = space::get_whi(w, s, v);
+    space::put_wlo(w, s, v, formulas::emitted_lower(wlo, lo, hi));
+    space::put_whi(w, s, v, formulas::emitted_upper(whi, lo, hi));
+    space::put_elo(w, s, v, lo);
+    space::put_ehi(w, s, v, hi);
+}
+
+// = emitBounds
+pub fn emit_bounds(
+    adj: &[usize],
+    w: &mut [f64],
+    m: &mut [usize],
+    s: Shape,
+    v: usize,
+    lo: f64,
+    hi: f64,
+)
     requires { ⌜ (v < s .vars) × HoldsF s (now w) × HoldsN s (now m) ⌝ }
     requires { ⌜ Ready (Adj (now adj)) s (floatsOf s (now w)) (numbersOf s (now m)) ⌝ }
-    ensures { λ z. ⌜ Tries (Adj (now (adj .entry))) s (floatsOf s (now (w .entry))) (numbersOf s (now (m .entry))) (floatsOf s (now (w .exit))) (numbersOf s (now (m .exit))) z (λ M. definition.upperInt M v qi) ⌝ }
+    ensures { λ _. ⌜ Acts (Adj (now (adj .entry))) s (floatsOf s (now (w .entry))) (numbersOf s (now (m .entry))) (floatsOf s (now (w .exit))) (numbersOf s (now (m .exit))) (λ M. definition.emitBounds M v lo hi) ⌝ }
 {
-    if qi < space::get_ehi(w, s, v) - 0.5 {
-        if qi < space::get_wlo(w, s, v) - 0.5 {
-            return Step::Stop;
-        }
-        let whi = space::get_whi(w, s, v);
-        space::put_ehi(w, s, v, qi);
-        space::put_whi(w, s, v, smaller(whi, qi));
+    let elo = space::get_elo(w, s, v);
+    let ehi = space::get_ehi(w, s, v);
+    if formulas::emits_tighter(lo, hi, elo, ehi) {
         mark_tightened(adj, m, s, v);
-        return Step::Next;
+        put_emitted(w, s, v, lo, hi);
+        return;
+    }
+    put_emitted(w, s, v, lo, hi);
+}
+
+// = upperInt
+fn upper_int(adj: &[usize], w: &mut [f64], m: &mut [usize], s: Shape, v: usize, q: f64) -> Step
+    requires { ⌜ (v < s .vars) × HoldsF s (now w) × HoldsN s (now m) ⌝ }
+    requires { ⌜ Ready (Adj (now adj)) s (floatsOf s (now w)) (numbersOf s (now m)) ⌝ }
+    ensures { λ z. ⌜ Tries (Adj (now (adj .entry))) s (floatsOf s (now (w .entry))) (numbersOf s (now (m .entry))) (floatsOf s (now (w .exit))) (numbersOf s (now (m .exit))) z (λ M. definition.upperInt M v q) ⌝ }
+{
+    let ehi = space::get_ehi(w, s, v);
+    let wlo = space::get_wlo(w, s, v);
+    match formulas::upper_int_move(q, ehi, wlo) {
+        Move::Leave => Step::Next,
+        Move::Stop => Step::Stop,
+        Move::Tighten => {
+            let whi = space::get_whi(w, s, v);
+            space::put_ehi(w, s, v, q);
+            space::put_whi(w, s, v, floats::smaller(whi, q));
+            mark_tightened(adj, m, s, v);
+            Step::Next
+        }
+    }
+}
+
+// = lowerInt
+fn lower_int(adj: &[usize], w: &mut [f64], m: &mut [usize], s: Shape, v: usize, q: f64) -> Step
+    requires { ⌜ (v < s .vars) × HoldsF s (now w) × HoldsN s (now m) ⌝ }
+    requires { ⌜ Ready (Adj (now adj)) s (floatsOf s (now w)) (numbersOf s (now m)) ⌝ }
+    ensures { λ z. ⌜ Tries (Adj (now (adj .entry))) s (floatsOf s (now (w .entry))) (numbersOf s (now (m .entry))) (floatsOf s (now (w .exit))) (numbersOf s (now (m .exit))) z (λ M. definition.lowerInt M v q) ⌝ }
+{
+    let elo = space::get_elo(w, s, v);
+    let whi = space::get_whi(w, s, v);
+    match formulas::lower_int_move(q, elo, whi) {
+        Move::Leave => Step::Next,
+        Move::Stop => Step::Stop,
+        Move::Tighten => {
+            let wlo = space::get_wlo(w, s, v);
+            space::put_elo(w, s, v, q);
+            space::put_wlo(w, s, v, floats::larger(wlo, q));
+            mark_tightened(adj, m, s, v);
+            Step::Next
+        }
+    }
+}
+
+// = upperReal
+fn upper_real(adj: &[usize], w: &mut [f64], m: &mut [usize], s: Shape, v: usize, q: f64) -> Step
+    requires { ⌜ (v < s .vars) × HoldsF s (now w) × HoldsN s (now m) ⌝ }
+    requires { ⌜ Ready (Adj (now adj)) s (floatsOf s (now w)) (numbersOf s (now m)) ⌝ }
+    ensures { λ z. ⌜ Tries (Adj (now (adj .entry))) s (floatsOf s (now (w .entry))) (numbersOf s (now (m .entry))) (floatsOf s (now (w .exit))) (numbersOf s (now (m .exit))) z (λ M. definition.upperReal M v q) ⌝ }
+{
+    let whi = space::get_whi(w, s, v);
+    let wlo = space::get_wlo(w, s, v);
+    let elo = space::get_elo(w, s, v);
+    let tol = tolerances::bound_tolerance(s.feas, elo);
+    match formulas::upper_real_move(q, whi, wlo, tol) {
+        Move::Leave => Step::Next,
+        Move::Stop => Step::Stop,
+        Move::Tighten => {
+            space::put_whi(w, s, v, q);
+            mark_tightened(adj, m, s, v);
+            Step::Next
+        }
+    }
+}
+
+// = lowerReal
+fn lower_real(adj: &[usize], w: &mut [f64], m: &mut [usize], s: Shape, v: usize, q: f64) -> Step
+    requires { ⌜ (v < s .vars) × HoldsF s (now w) × HoldsN s (now m) ⌝ }
+    requires { ⌜ Ready (Adj (now adj)) s (floatsOf s (now w)) (numbersOf s (now m)) ⌝ }
+    ensures { λ z. ⌜ Tries (Adj (now (adj .entry))) s (floatsOf s (now (w .entry))) (numbersOf s (now (m .entry))) (floatsOf s (now (w .exit))) (numbersOf s (now (m .exit))) z (λ M. definition.lowerReal M v q) ⌝ }
+{
+    let wlo = space::get_wlo(w, s, v);
+    let whi = space::get_whi(w, s, v);
+    let ehi = space::get_ehi(w, s, v);
+    let tol = tolerances::bound_tolerance(s.feas, ehi);
+    match formulas::lower_real_move(q, wlo, whi, tol) {
+        Move::Leave => Step::Next,
+        Move::Stop => Step::Stop,
+        Move::Tighten => {
+            space::put_wlo(w, s, v, q);
+            mark_tightened(adj, m, s, v);
+            Step::Next
+        }
+    }
+}
+
+// = isInt
+pub fn is_int(domain: &[u8], s: Shape, v: usize) -> bool
+    requires { ⌜ v < length (now domain) ⌝ }
+    ensures { λ z. ⌜ z ≡ intCode (s .mip) (getD (now (domain .entry)) v 0) ⌝ }
+{
+    if s.mip {
+        return domain[v] != 1;
+    }
+    false
+}
+
+// = tightenUpper
+pub fn tighten_upper(
+    domain: &[u8],
+    adj: &[usize],
+    w: &mut [f64],
+    m: &mut [usize],
+    s: Shape,
+    v: usize,
+    q: f64,
+    relax: f64,
+) -> Step
+    requires { ⌜ (v < s .vars) × HoldsF s (now w) × HoldsN s (now m) ⌝ }
+    requires { ⌜ Ready (Bounding (now domain) (now adj)) s (floatsOf s (now w)) (numbersOf s (now m)) ⌝ }
+    ensures { λ z. ⌜ Tries (Bounding (now (domain .entry)) (now (adj .entry))) s (floatsOf s (now (w .entry))) (numbersOf s (now (m .entry))) (floatsOf s (now (w .exit))) (numbersOf s (now (m .exit))) z (λ M. definition.tightenUpper M v q relax) ⌝ }
+{
+    if floats::is_finite(q) {
+        if is_int(domain, s, v) {
+            return upper_int(adj, w, m, s, v, floats::floor(q + relax));
+        }
+        return upper_real(adj, w, m, s, v, q + relax);
+    }
+    Step::Next
+}
+
+// = tightenLower
+pub fn tighten_lower(
+    domain: &[u8],
+    adj: &[usize],
+    w: &mut [f64],
+    m: &mut [usize],
+    s: Shape,
+    v: usize,
+    q: f64,
+    relax: f64,
+) -> Step
+    requires { ⌜ (v < s .vars) × HoldsF s (now w) × HoldsN s (now m) ⌝ }
+    requires { ⌜ Ready (Bounding (now domain) (now adj)) s (floatsOf s (now w)) (numbersOf s (now m)) ⌝ }
+    ensures { λ z. ⌜ Tries (Bounding (now (domain .entry)) (now (adj .entry))) s (floatsOf s (now (w .entry))) (numbersOf s (now (m .entry))) (floatsOf s (now (w .exit))) (numbersOf s (now (m .exit))) z (λ M. definition.tightenLower M v q relax) ⌝ }
+{
+    if floats::is_finite(q) {
+        if is_int(domain, s, v) {
+            return lower_int(adj, w, m, s, v, floats::ceil(q - relax));
+        }
+        return lower_real(adj, w, m, s, v, q - relax);
     }
     Step::Next
 }

@@ -1,4 +1,4 @@
--- Bounds and counts: what one store to a bound or a count does to the state, and the ways through the functions of `work`'s bounds.
+-- Bounds and counts: what one store to a bound or a count does to the state.
 use Prim.Native.Nat.{ℕ, zero, suc, _+_, _-_, _%_, _^_, _≤_, _<_}
 use native.Mathlib.Omega.{arith}
 use mathlib.Core.Path.{_≡_, refl, ap, sym, _∙_, subst}
@@ -6,21 +6,20 @@ use mathlib.Core.Bool.{Bool, true, false}
 use mathlib.Core.List.{List, [], _∷_, _++_, map}
 use lib.ListN.{length, getD, set, length-set}
 use lib.Seq.{getD-set-same}
-use lib.Ieee.{Float, nan, lt}
-use Rattle.floats.specs.Num.{choose, _⊖_, ½f, minf, gt, _⊕_, maxf}
+use lib.Ieee.{Float, nan}
 use Rattle.tolerances.specs.Tol.{at}
-use Rattle.definition.specs.Model.{Model, tightened, fixedOne, dropped, rewrote}
+use Rattle.definition.specs.Model.{Model, tightened, fixedOne}
 use Rattle.definition.specs.Work.{Work, withBounds, withCounts, Step, stop, next}
 use Rattle.definition.specs.Marks.{markVar}
-use Rattle.definition.specs.Bounds.{fix, markTightened, upperInt}
+use Rattle.definition.specs.Bounds.{fix, markTightened}
 use Rattle.space.specs.declared.Shape.{Shape}
 use Rattle.space.specs.declared.Step.the-variants.{Stop, Next}
-use Rattle.space.specs.Store.{Floats, Numbers, put-wlo, put-whi, put-elo, put-ehi, put-fixed, put-tightened, put-dropped, put-rewrote}
+use Rattle.space.specs.Store.{Floats, Numbers, put-wlo, put-whi, put-elo, put-ehi, put-fixed, put-tightened}
 use Rattle.view.specs.Call.{Call}
 use Rattle.view.specs.Shows.{Shows, StepShown, stopped, went, Counted, tallyOf, partsOf}
 use Rattle.view.specs.Inv.{Inv}
-use Rattle.view.specs.Acts.{Ready, Acts, Tries, ReadyN, ActsN, Any, Keeps, acts-then, then-numbers, of-numbers, ready-after, any}
-use Rattle.view.specs.Lists.{yes, no, count-mod}
+use Rattle.view.specs.Acts.{Acts, ActsN, Keeps, acts-then, then-numbers, of-numbers}
+use Rattle.view.specs.Lists.{count-mod}
 use Rattle.view.specs.Marks.{inv-mark-var}
 use Rattle.view.specs.Adjacency.{Adj}
 
@@ -149,7 +148,7 @@ module _ {s : Shape} {adj : List ℕ} (v : ℕ) where
   unfolding markTightened
   tighten-end l e m = let a = then-numbers (tightened-acts l e) tightened-keeps m in record { does = a .does }
 
-inv-tighten : {M : Model} {k : ℕ} (v : ℕ) (w : Work) → Inv M k w → Inv M k (markTightened M v w)
+pub inv-tighten : {M : Model} {k : ℕ} (v : ℕ) (w : Work) → Inv M k w → Inv M k (markTightened M v w)
 unfolding markTightened
 inv-tighten v w i =
     inv-mark-var v (countTightened w)
@@ -178,26 +177,3 @@ went-by {M} {f} {n} {o} e h = subst (λ (y : Step). StepShown M f n o Next y) (s
 
 pub stopped-by : {M : Model} {f : Floats} {n : Numbers} {o : List ℕ} {w : Work} {z : Step} → z ≡ stop (w .counts) → Shows M f n o w → StepShown M f n o Stop z
 stopped-by {M} {f} {n} {o} e h = subst (λ (y : Step). StepShown M f n o Stop y) (sym e) (stopped (h .counts))
-
--- ---- upper_int, by its ways
-module _ {s : Shape} {adj : List ℕ} {f : Floats} {n : Numbers} (v : ℕ) (qi : Float) {eh : Float} (ee : eh ≡ getD (f .ehi) v nan) where
-  pub upper-int-same : lt qi (eh ⊖ ½f) ≡ false → Tries (Adj adj) s f n f n Next (λ M. upperInt M v qi)
-  unfolding upperInt
-  upper-int-same t = record { does = λ M o k w p c h i. went-by (no _ _ (rw (ehi-is v h ee) at t)) h }
-
-  pub upper-int-stop : {wl : Float} → lt qi (eh ⊖ ½f) ≡ true → wl ≡ getD (f .wlo) v nan → lt qi (wl ⊖ ½f) ≡ true → Tries (Adj adj) s f n f n Stop (λ M. upperInt M v qi)
-  unfolding upperInt
-  upper-int-stop t ew u = record { does = λ M o k w p c h i. stopped-by {w = w} (yes _ _ (rw (ehi-is v h ee) at t) ∙ yes _ _ (rw (wlo-is v h ew) at u)) h }
-
-  pub upper-int-tight : {wl wh z : Float} {f₁ f₂ : Floats} {n′ : Numbers} → lt qi (eh ⊖ ½f) ≡ true → wl ≡ getD (f .wlo) v nan → lt qi (wl ⊖ ½f) ≡ false → wh ≡ getD (f .whi) v nan
-      → f₁ ≡ put-ehi v qi f → z ≡ minf wh qi → f₂ ≡ put-whi v z f₁ → ActsN (Adj adj) s n n′ (λ M. markTightened M v) → Tries (Adj adj) s f n f₂ n′ Next (λ M. upperInt M v qi)
-  unfolding upperInt
-  upper-int-tight {z = z} t ew u eh′ e₁ ez e₂ m =
-      let a = acts-then (ehi-acts e₁) (ehi-keeps v qi) (acts-then (whi-acts e₂) (whi-keeps v z) (of-numbers m)) in
-      record {
-        does = λ M o k w p c h i.
-            let y : z ≡ minf (at (w .whi) v) qi = ez ∙ ap (λ (x : Float). minf x qi) (whi-is v h eh′) in
-            went-by
-            (yes _ _ (rw (ehi-is v h ee) at t) ∙ no _ _ (rw (wlo-is v h ew) at u) ∙ ap (λ (x : Float). next (markTightened M v (withBounds (w .wlo) (set (w .whi) v x) (w .elo) (set (w .ehi) v qi) w))) (sym y))
-            (a .does M o k w p c h i);
-      }
