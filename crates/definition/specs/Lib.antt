@@ -21,3 +21,5 @@ pub mod Emit
 pub mod Presolve
 pub mod Refusal
 pub mod Cases
+pub mod RowsKept
+pub mod PointsKept

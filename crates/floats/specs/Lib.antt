@@ -1,3 +1,4 @@
+-- The law library of floats, from rounding over whole numbers up to the laws that models rest on. Each file says what it has.
 pub mod Near
 pub mod Sum
 pub mod Zed
@@ -9,6 +10,7 @@ pub mod Error
 pub mod Next
 pub mod Whole
 pub mod Num
+pub mod Steps
 pub mod Integral
 pub mod Order
 pub mod Meaning
@@ -18,3 +20,6 @@ pub mod Compare
 pub mod WholeRounding
 pub mod Quotients
 pub mod Slacks
+pub mod Extremes
+pub mod Growth
+pub mod Rows

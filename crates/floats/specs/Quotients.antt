@@ -72,37 +72,44 @@ scaled-rows pv nv pd nd pz nz a L pu nu e f g h k = rw (e, f, g, h) (omega arith
 scaled-rows' : (pv nv pd nd pz nz a L pu nu : ℕ) → pv ≡ pz * L → nv ≡ nz * L → pu ≡ pd * L → nu ≡ nd * L → (pd + a * nz) * L ≤ (a * pz + nd) * L → pu + nv * a ≤ pv * a + nu
 scaled-rows' pv nv pd nd pz nz a L pu nu e f g h k = rw (e, f, g, h) (omega arith)
 
-pub div-above : {d a x : Float} → Bounded (2 ^ 53) d → Bounded (2 ^ 15) a → Whole x → pos 0 ⊏ int a → int a *ℤ int x ⊑ int d → x ≼ (d ⊘ a)
-div-above {d} {a} {x} bd ba wx p o =
+-- THE ROUNDED QUOTIENT of whole numbers, of any size, is not below a whole number that the exact one is not below, so not below its floor, and not above its ceiling
+pub quotient-above : {d a x : Float} → Whole d → Whole a → Whole x → pos 0 ⊏ int a → int a *ℤ int x ⊑ int d → x ≼ (d ⊘ a)
+quotient-above {d} {a} {x} wd wa wx p o =
     let L = 2 ^ 1074 in
-    let nd = whole-num d (bd .whole) in
-    let ud = to-units d (bd .whole) .val in
+    let nd = whole-num d wd in
+    let ud = to-units d wd .val in
     let rx = whole-rank x wx in
     record {
-      le = ⊑→le x (d ⊘ a) (whole-real x wx) (by a (ba .whole) p d nd .real)
-          (by-above a (ba .whole) p d nd (rank x) (held-of x (whole-real x wx))
+      le = ⊑→le x (d ⊘ a) (whole-real x wx) (by a wa p d nd .real)
+          (by-above a wa p d nd (rank x) (held-of x (whole-real x wx))
           (scaled-rows (P (rank x)) (N (rank x)) (P (int d)) (N (int d)) (P (int x)) (N (int x)) (P (int a)) L (P (units d)) (N (units d)) (ap P rx ∙ P-sc L (int x)) (ap N rx ∙ N-sc L (int x)) (ap P ud ∙ P-sc L (int d)) (ap N ud ∙ N-sc L (int d))
-          (mul-le-mul-right L (lin (P (int a *ℤ int x)) (N (int a *ℤ int x)) (P (int a) * P (int x)) (P (int a) * N (int x)) (P (int d)) (N (int d)) (times a (ba .whole) p (int x)) o))));
+          (mul-le-mul-right L (lin (P (int a *ℤ int x)) (N (int a *ℤ int x)) (P (int a) * P (int x)) (P (int a) * N (int x)) (P (int d)) (N (int d)) (times a wa p (int x)) o))));
     }
   where
     lin : (p n pp nn pd nd : ℕ) → p + nn ≡ n + pp → p + nd ≤ pd + n → pp + nd ≤ pd + nn
     lin p n pp nn pd nd e h = omega arith
 
-pub div-below : {d a x : Float} → Bounded (2 ^ 53) d → Bounded (2 ^ 15) a → Whole x → pos 0 ⊏ int a → int d ⊑ int a *ℤ int x → (d ⊘ a) ≼ x
-div-below {d} {a} {x} bd ba wx p o =
+pub quotient-below : {d a x : Float} → Whole d → Whole a → Whole x → pos 0 ⊏ int a → int d ⊑ int a *ℤ int x → (d ⊘ a) ≼ x
+quotient-below {d} {a} {x} wd wa wx p o =
     let L = 2 ^ 1074 in
-    let nd = whole-num d (bd .whole) in
-    let ud = to-units d (bd .whole) .val in
+    let nd = whole-num d wd in
+    let ud = to-units d wd .val in
     let rx = whole-rank x wx in
     record {
-      le = ⊑→le (d ⊘ a) x (by a (ba .whole) p d nd .real) (whole-real x wx)
-          (by-below a (ba .whole) p d nd (rank x) (held-of x (whole-real x wx))
+      le = ⊑→le (d ⊘ a) x (by a wa p d nd .real) (whole-real x wx)
+          (by-below a wa p d nd (rank x) (held-of x (whole-real x wx))
           (scaled-rows' (P (rank x)) (N (rank x)) (P (int d)) (N (int d)) (P (int x)) (N (int x)) (P (int a)) L (P (units d)) (N (units d)) (ap P rx ∙ P-sc L (int x)) (ap N rx ∙ N-sc L (int x)) (ap P ud ∙ P-sc L (int d)) (ap N ud ∙ N-sc L (int d))
-          (mul-le-mul-right L (lin (P (int a *ℤ int x)) (N (int a *ℤ int x)) (P (int a) * P (int x)) (P (int a) * N (int x)) (P (int d)) (N (int d)) (times a (ba .whole) p (int x)) o))));
+          (mul-le-mul-right L (lin (P (int a *ℤ int x)) (N (int a *ℤ int x)) (P (int a) * P (int x)) (P (int a) * N (int x)) (P (int d)) (N (int d)) (times a wa p (int x)) o))));
     }
   where
     lin : (p n pp nn pd nd : ℕ) → p + nn ≡ n + pp → pd + n ≤ p + nd → pd + nn ≤ pp + nd
     lin p n pp nn pd nd e h = omega arith
+
+pub div-above : {d a x : Float} → Bounded (2 ^ 53) d → Bounded (2 ^ 15) a → Whole x → pos 0 ⊏ int a → int a *ℤ int x ⊑ int d → x ≼ (d ⊘ a)
+div-above bd ba wx p o = quotient-above (bd .whole) (ba .whole) wx p o
+
+pub div-below : {d a x : Float} → Bounded (2 ^ 53) d → Bounded (2 ^ 15) a → Whole x → pos 0 ⊏ int a → int d ⊑ int a *ℤ int x → (d ⊘ a) ≼ x
+div-below bd ba wx p o = quotient-below (bd .whole) (ba .whole) wx p o
 
 -- ---- a negative divisor: both signs turned
 pub div-neg : (x y : Float) → Num x → Num y → neg x ⊘ neg y ≡ x ⊘ y
@@ -137,7 +144,7 @@ neg-mul a x = lin (P (negℤ a *ℤ x)) (N (negℤ a *ℤ x)) (P (a *ℤ x)) (N 
 neg-pos : (z : ℤ) → z ⊏ pos 0 → pos 0 ⊏ negℤ z
 neg-pos z h = omega (arith, P-neg z, N-neg z)
 
-module _ {d a : Float} (bd : Bounded (2 ^ 53) d) (ba : Bounded (2 ^ 15) a) (p : int a ⊏ pos 0) where
+module _ {d a : Float} {t u : ℕ} (bd : Bounded t d) (ba : Bounded u a) (p : int a ⊏ pos 0) where
   pub turned-a : pos 0 ⊏ int (neg a)
   turned-a = subst (λ (z : ℤ). pos 0 ⊏ z) (sym (neg-int a (ba .whole))) (neg-pos (int a) p)
 
@@ -169,11 +176,26 @@ module _ {d a : Float} (bd : Bounded (2 ^ 53) d) (ba : Bounded (2 ^ 15) a) (p : 
       lin : (u v d : ℤ) → P u + P v ≡ N v + N u → u ⊑ negℤ d → d ⊑ v
       lin u v d e h = omega (arith, P-neg d, N-neg d)
 
+sized : (x : Float) → Whole x → Bounded (A (int x)) x
+sized x w = record { whole = w; small = le-refl (A (int x)) }
+
+pub quotient-above-neg : {d a x : Float} → Whole d → Whole a → Whole x → int a ⊏ pos 0 → int d ⊑ int a *ℤ int x → x ≼ (d ⊘ a)
+quotient-above-neg {d} {a} {x} wd wa wx p o =
+    let bd = sized d wd in
+    let ba = sized a wa in
+    subst (λ (z : Float). x ≼ z) (turned bd ba p) (quotient-above (neg-bounded (A (int d)) d bd .whole) (neg-bounded (A (int a)) a ba .whole) wx (turned-a bd ba p) (turn-le bd ba p (int x) o))
+
+pub quotient-below-neg : {d a x : Float} → Whole d → Whole a → Whole x → int a ⊏ pos 0 → int a *ℤ int x ⊑ int d → (d ⊘ a) ≼ x
+quotient-below-neg {d} {a} {x} wd wa wx p o =
+    let bd = sized d wd in
+    let ba = sized a wa in
+    subst (λ (z : Float). z ≼ x) (turned bd ba p) (quotient-below (neg-bounded (A (int d)) d bd .whole) (neg-bounded (A (int a)) a ba .whole) wx (turned-a bd ba p) (turn-ge bd ba p (int x) o))
+
 pub div-above-neg : {d a x : Float} → Bounded (2 ^ 53) d → Bounded (2 ^ 15) a → Whole x → int a ⊏ pos 0 → int d ⊑ int a *ℤ int x → x ≼ (d ⊘ a)
-div-above-neg {d} {a} {x} bd ba wx p o = subst (λ (z : Float). x ≼ z) (turned bd ba p) (div-above (neg-bounded (2 ^ 53) d bd) (neg-bounded (2 ^ 15) a ba) wx (turned-a bd ba p) (turn-le bd ba p (int x) o))
+div-above-neg bd ba wx p o = quotient-above-neg (bd .whole) (ba .whole) wx p o
 
 pub div-below-neg : {d a x : Float} → Bounded (2 ^ 53) d → Bounded (2 ^ 15) a → Whole x → int a ⊏ pos 0 → int a *ℤ int x ⊑ int d → (d ⊘ a) ≼ x
-div-below-neg {d} {a} {x} bd ba wx p o = subst (λ (z : Float). z ≼ x) (turned bd ba p) (div-below (neg-bounded (2 ^ 53) d bd) (neg-bounded (2 ^ 15) a ba) wx (turned-a bd ba p) (turn-ge bd ba p (int x) o))
+div-below-neg bd ba wx p o = quotient-below-neg (bd .whole) (ba .whole) wx p o
 
 -- ---- a quotient is a number
 pub div-num : {d a : Float} → Bounded (2 ^ 53) d → Whole a → pos 0 ⊏ int a → Num (d ⊘ a)

@@ -1,15 +1,15 @@
 -- The formulas look at a row's four floats alone, and of the model at its tolerance, the row's count of terms and the Rust's seven numbers:
 -- each definition that they compute says the same of every row with the four floats.
 use Prim.Native.Nat.{ℕ}
-use mathlib.Core.Path.{_≡_, refl, sym, ap, _∙_}
+use mathlib.Core.Path.{_≡_, refl}
 use mathlib.Core.Bool.{Bool, true, false}
-use mathlib.Core.List.{[]}
-use mathlib.Core.Option.{none}
+use mathlib.Core.List.{List, []}
+use mathlib.Core.Option.{Option, none}
 use lib.Ieee.{Float}
+use Rattle.tolerances.specs.Tol.{Term}
 use Rattle.definition.specs.declared.Activity.{Activity}
 use Rattle.definition.specs.Params.{params}
-use Rattle.definition.specs.Model.{Model, Row, nnz, rhsMag}
-use Rattle.definition.specs.Folds.{widened}
+use Rattle.definition.specs.Model.{Model, Binding, Row, withAlive, withTouched, withTerms, withRange, withBinding, nnz, rhsMag}
 use Rattle.definition.specs.Sides.{hiSide, loSide, magL, magU, withinLo, withinHi, within, withinBy, sideMag, magBoth, budgetL, budgetU, aboveHi, belowLo, unreachable, nearMin, nearMax, redundant}
 use Rattle.definition.specs.Singles.{finiteMag, roomAt, widenedAt, droppedRoom, newLower, newUpper}
 use Rattle.definition.specs.Rewrites.{Form, leForm, geForm, noForm, formOf, vacuousRoom, vacuousLe, vacuousGe, vacuous}
@@ -45,6 +45,23 @@ limits-of h = λ i. record { lo = h .lo i; hi = h .hi i; foldScale = h .foldScal
 
 pub has-limits : {x : Limits} (w : Row) → x ≡ limitsOf w → Has x w
 has-limits w e = record { lo = cc; hi = cc; foldScale = cc; shift = cc }
+
+-- what changes the rest of the row keeps them
+module _ {x : Limits} {w : Row} (h : Has x w) where
+  pub has-terms : (ts : List Term) → Has x (withTerms ts w)
+  has-terms ts = has-limits (withTerms ts w) (limits-of h)
+
+  pub has-alive : (b : Bool) → Has x (withAlive b w)
+  has-alive b = has-limits (withAlive b w) (limits-of h)
+
+  pub has-touched : (b : Bool) → Has x (withTouched b w)
+  has-touched b = has-limits (withTouched b w) (limits-of h)
+
+  pub has-binding : (b : Option Binding) → Has x (withBinding b w)
+  has-binding b = has-limits (withBinding b w) (limits-of h)
+
+  pub has-range : (l u : Float) → Has (record { lo = l; hi = u; foldScale = x .foldScale; shift = x .shift }) (withRange l u w)
+  has-range l u = record { lo = refl; hi = refl; foldScale = h .foldScale; shift = h .shift }
 
 -- row r of the model has n terms as written, and the model has this tolerance and the Rust's seven numbers
 pub record Of (M : Model) (r : ℕ) (tol : Float) (n : ℕ) : Type 0 where

@@ -1,15 +1,38 @@
--- Fixed variables, and dual fixing's tests of one variable, by numbers alone.
+-- Integer and fixed variables, and dual fixing's tests of one variable, by numbers alone.
 use Prim.Native.Nat.{ℕ}
 use mathlib.Core.Path.{_≡_, refl}
-use mathlib.Core.Bool.{Bool, true, false, not, _&&_}
+use mathlib.Core.Bool.{Bool, true, not, _&&_}
 use mathlib.Core.List.{List}
+use lib.Dec.{eqb}
 use lib.ListN.{getD}
 use lib.Ieee.{Float, eq, le}
-use Rattle.floats.specs.Num.{ge, 0f, isFinite}
+use Rattle.floats.specs.Num.{choose, gt, ge, 0f, isFinite}
 use Rattle.tolerances.specs.Tol.{at}
-use Rattle.definition.specs.Model.{Model}
+use Rattle.definition.specs.Model.{Model, isIntDomain, isMip, isInt}
 use Rattle.definition.specs.Work.{Work, fixed}
 use Rattle.definition.specs.Dual.{mayFall, mayRise}
+
+unfoldable pub intDomain : ℕ → Bool
+intDomain d = not (eqb d 1)
+
+unfoldable pub mip : ℕ → Bool
+mip mode = not (eqb mode 0)
+
+pub int-domain-of : (M : Model) (v : ℕ) → intDomain (getD (M .domain) v 0) ≡ isIntDomain M v
+unfolding intDomain isIntDomain
+int-domain-of M v = refl
+
+pub mip-of : (M : Model) → mip (M .mode) ≡ isMip M
+unfolding mip isMip
+mip-of M = refl
+
+pub int-of : (M : Model) (v : ℕ) → mip (M .mode) && intDomain (getD (M .domain) v 0) ≡ isInt M v
+unfolding mip intDomain isMip isIntDomain isInt
+int-of M v = refl
+
+-- the test of `blockTerms`
+unfoldable pub blocksAt : Float → Bool → Bool → Bool
+blocksAt a pos neg = choose (gt a 0f) pos neg
 
 unfoldable pub fixedAt : Float → Float → Bool
 fixedAt elo ehi = eq elo ehi && isFinite elo

@@ -1,15 +1,23 @@
--- What folding does to a row's four floats.
+-- A row's four floats as written, and what folding does to them.
 use Prim.Native.Nat.{ℕ}
-use mathlib.Core.Path.{_≡_, refl, sym, ap, _∙_}
+use lib.Dec.{eqb}
+use mathlib.Core.Path.{_≡_, refl, ap, _∙_}
 use mathlib.Core.Bool.{Bool, true, false, not, _&&_}
 use lib.Ieee.{Float}
-use Rattle.floats.specs.Num.{choose, _⊕_, _⊖_, _⊗_, isFinite, abs}
+use Rattle.floats.specs.Num.{choose, _⊕_, _⊖_, _⊗_, 0f, ∞f, -∞f, isFinite, abs}
 use Rattle.tolerances.specs.Tol.{Term, at}
-use Rattle.definition.specs.Model.{Row}
+use Rattle.definition.specs.Model.{Model, opOf, rhsOf, Row, asWritten}
 use Rattle.definition.specs.Work.{Work}
 use Rattle.definition.specs.Folds.{foldTerm, widened, bound?, givesBack}
 use Rattle.formulas.specs.declared.Limits.{Limits}
 use Rattle.formulas.specs.Bare.{bare, limitsOf, Has, limits-of, has-limits}
+
+unfoldable pub writtenLimits : ℕ → Float → Limits
+writtenLimits op b = record { lo = choose (eqb op 1) -∞f b; hi = choose (eqb op 2) ∞f b; foldScale = 0f; shift = 0f }
+
+pub written-of : {op : ℕ} {b : Float} (M : Model) (r : ℕ) → op ≡ opOf M r → b ≡ rhsOf M r → Has (writtenLimits op b) (asWritten M r)
+unfolding writtenLimits asWritten
+written-of M r e f = record { lo = cc; hi = cc; foldScale = refl; shift = refl }
 
 abbrev pub foldedLimits : Float → Limits → Limits
 foldedLimits s x = record { lo = x .lo ⊖ s; hi = x .hi ⊖ s; foldScale = x .foldScale ⊕ abs s; shift = x .shift ⊕ s }

@@ -1,7 +1,7 @@
 -- Forcing, by numbers alone.
 use Prim.Native.Nat.{ℕ}
-use mathlib.Core.Path.{_≡_, refl, sym, ap, _∙_}
-use mathlib.Core.Bool.{Bool, true, false, not, _&&_}
+use mathlib.Core.Path.{_≡_, refl}
+use mathlib.Core.Bool.{Bool, not, _&&_}
 use mathlib.Core.List.{List}
 use lib.Ieee.{Float, neg, lt, le}
 use Rattle.floats.specs.Num.{choose, _⊕_, _⊖_, _⊗_, _⊘_, gt, 0f, 1f, abs, maxf}

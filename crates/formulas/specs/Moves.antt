@@ -1,6 +1,6 @@
 -- What an implied bound does to its variable, by numbers alone: the three ways of `tighten_upper` and `tighten_lower`.
 use Prim.Native.Nat.{ℕ}
-use mathlib.Core.Path.{_≡_, refl, sym, ap, _∙_}
+use mathlib.Core.Path.{_≡_, refl}
 use mathlib.Core.Bool.{Bool, true, false, _||_}
 use lib.ListN.{set}
 use lib.Ieee.{Float, lt}
@@ -8,7 +8,7 @@ use Rattle.floats.specs.Num.{choose, _⊕_, _⊖_, _⊗_, gt, 1f, ½f, abs, max
 use Rattle.tolerances.specs.Tol.{at}
 use Rattle.definition.specs.Params.{params}
 use Rattle.definition.specs.Model.{Model}
-use Rattle.definition.specs.Work.{Work, withBounds, Step, stop, next, boundTol}
+use Rattle.definition.specs.Work.{Work, withBounds, stop, next, boundTol}
 use Rattle.definition.specs.Bounds.{markTightened, upperInt, upperReal, lowerInt, lowerReal, emitBounds}
 use Rattle.formulas.specs.declared.Move.{Move}
 use Rattle.formulas.specs.declared.Move.the-variants.{Leave, Stop, Tighten}

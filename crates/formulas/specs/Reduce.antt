@@ -1,12 +1,16 @@
 -- The precheck of a row of several terms: where the working activity says no, the emitted one decides nothing.
 use Prim.Native.Nat.{ℕ}
-use mathlib.Core.Path.{_≡_, refl, sym, ap, _∙_}
-use mathlib.Core.Bool.{Bool, true, false, _&&_, _||_}
+use mathlib.Core.Path.{_≡_, refl}
+use mathlib.Core.Bool.{Bool, true, false, _||_}
+use Rattle.floats.specs.Num.{choose}
 use Rattle.definition.specs.declared.Activity.{Activity}
 use Rattle.definition.specs.Model.{Model, Row}
 use Rattle.definition.specs.Work.{Work}
-use Rattle.definition.specs.Sides.{within, nearMin, nearMax, redundant}
+use Rattle.definition.specs.Activities.{activity}
+use Rattle.definition.specs.Sides.{within, nearMin, nearMax, unreachable, redundant}
 use Rattle.definition.specs.Forcing.{forcesMin, forcesMax}
+use Rattle.definition.specs.Implied.{impliedBounds}
+use Rattle.definition.specs.Wave.{severalTerms}
 use Rattle.formulas.specs.declared.Limits.{Limits}
 use Rattle.formulas.specs.Bare.{bare, Has, near-min-of, near-max-of, within-of}
 
@@ -22,18 +26,18 @@ or-right true true e = e
 or-right true false e = refl
 or-right false b e = e
 
-module _ (M : Model) (r : ℕ) (row : Row) (act : Activity) (no : mayReduce M r row act ≡ false) where
+module _ (M : Model) (r : ℕ) (row : Row) (act : Activity) (never : mayReduce M r row act ≡ false) where
   not-near-min : nearMin M r row act ≡ false
   unfolding mayReduce
-  not-near-min = or-left _ (nearMax M r row act) (or-left _ (within row act) no)
+  not-near-min = or-left _ (nearMax M r row act) (or-left _ (within row act) never)
 
   not-near-max : nearMax M r row act ≡ false
   unfolding mayReduce
-  not-near-max = or-right (nearMin M r row act) _ (or-left _ (within row act) no)
+  not-near-max = or-right (nearMin M r row act) _ (or-left _ (within row act) never)
 
   not-within : within row act ≡ false
   unfolding mayReduce
-  not-within = or-right (nearMin M r row act || nearMax M r row act) _ no
+  not-within = or-right (nearMin M r row act || nearMax M r row act) _ never
 
   pub forces-not-min : (e : Activity) (w : Work) → forcesMin M r row act e w ≡ false
   unfolding forcesMin
@@ -46,6 +50,15 @@ module _ (M : Model) (r : ℕ) (row : Row) (act : Activity) (no : mayReduce M r 
   pub not-redundant : (e : Activity) → redundant M row act e ≡ false
   unfolding redundant
   not-redundant e = rw not-within
+
+-- so such a row of several terms, if it can be met, is left to the implied bounds
+pub several-of : (M : Model) (r : ℕ) (row : Row) (w : Work) → unreachable M r row (activity M w row true) ≡ false → mayReduce M r row (activity M w row true) ≡ false
+    → severalTerms M r row w ≡ impliedBounds M r row (activity M w row true) (row .terms) w
+unfolding severalTerms choose
+several-of M r row w u never =
+    let a = activity M w row true in
+    let e = activity M w row false in
+    rw (u, forces-not-min M r row a never e w, forces-not-max M r row a never e w, not-redundant M r row a never e)
 
 pub may-reduce-of : {x : Limits} {w : Row} (M : Model) (r : ℕ) (act : Activity) → Has x w → mayReduce M r (bare x) act ≡ mayReduce M r w act
 unfolding mayReduce

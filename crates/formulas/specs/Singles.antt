@@ -1,15 +1,37 @@
 -- Rows of one term, by numbers alone: the tests against the variable's emitted bounds and their tolerances.
 use Prim.Native.Nat.{ℕ}
-use mathlib.Core.Path.{_≡_, refl, sym, ap, _∙_}
+use mathlib.Core.Path.{_≡_, refl}
 use mathlib.Core.Bool.{Bool, true, false, not, _||_}
 use lib.Ieee.{Float, lt, le}
-use Rattle.floats.specs.Num.{_⊕_, _⊖_, _⊘_, gt, ge, isFinite}
-use Rattle.tolerances.specs.Tol.{at}
+use Rattle.floats.specs.Num.{choose, _⊕_, _⊖_, _⊘_, gt, ge, 0f, isFinite}
+use Rattle.tolerances.specs.Tol.{Term, at}
 use Rattle.definition.specs.Model.{Model, Row}
-use Rattle.definition.specs.Work.{Work, boundTol}
-use Rattle.definition.specs.Singles.{roomAt, droppedRoom, singletonMisses, lowerMeets, upperMeets}
+use Rattle.definition.specs.Work.{Work, next, _>>=_, boundTol}
+use Rattle.definition.specs.Singles.{roomAt, droppedRoom, singletonMisses, lowerMeets, upperMeets, singletonBounds, singletonDrop, singletonRow}
 use Rattle.formulas.specs.declared.Limits.{Limits}
 use Rattle.formulas.specs.Bare.{bare, Has, room-at-of, dropped-room-of}
+
+-- `blo` and `bhi` of `singletonRow`
+unfoldable pub lowerSide : Row → Float → Float
+lowerSide row a = choose (gt a 0f) (row .lo) (row .hi)
+
+unfoldable pub upperSide : Row → Float → Float
+upperSide row a = choose (gt a 0f) (row .hi) (row .lo)
+
+pub lower-side-of : {x : Limits} {row : Row} (a : Float) → Has x row → lowerSide (bare x) a ≡ lowerSide row a
+unfolding lowerSide
+lower-side-of a h = cc
+
+pub upper-side-of : {x : Limits} {row : Row} (a : Float) → Has x row → upperSide (bare x) a ≡ upperSide row a
+unfolding upperSide
+upper-side-of a h = cc
+
+pub singleton-of : (M : Model) (r : ℕ) (row : Row) (t : Term) (w : Work)
+    → singletonRow M r row t w
+    ≡ (singletonBounds M r row (t .var) (t .coeff) (lowerSide row (t .coeff)) (upperSide row (t .coeff)) w
+    >>= λ w1. next (singletonDrop M r row (t .var) (t .coeff) (lowerSide row (t .coeff)) (upperSide row (t .coeff)) w1))
+unfolding singletonRow lowerSide upperSide
+singleton-of M r row t w = refl
 
 module _ (M : Model) where
   unfoldable pub missesAt : ℕ → Row → Float → Float → Float → Float → Float → Float → Float → Bool

@@ -1,9 +1,10 @@
 -- A term's part in an activity, by numbers alone.
-use Prim.Native.Nat.{ℕ, suc, _+_, _-_, _%_, _^_, _<_}
-use mathlib.Core.Path.{_≡_, refl, sym, ap, _∙_}
+use Prim.Native.Nat.{ℕ, suc, _+_, _%_, _^_, _≤_, _<_}
+use mathlib.Core.Path.{_≡_, _∙_}
 use native.Mathlib.Numerals.{add-one}
 use native.Mathlib.Nat.{mod-eq-of-lt}
 use native.Mathlib.Omega.{arith}
+use mathlib.Core.Bool.{Bool, true, false}
 use lib.Ieee.{Float, lt}
 use Rattle.floats.specs.Num.{choose, _⊕_, _⊗_, gt, 0f, isFinite, abs}
 use Rattle.tolerances.specs.Tol.{Term}
@@ -66,3 +67,18 @@ pub step-of : (M : Model) (w : Work) (lo hi : Float) (t : Term) (act : Activity)
     → stepOf (t .coeff) lo hi (boundTol M w (t .var) (lt (t .coeff) 0f)) (boundTol M w (t .var) (gt (t .coeff) 0f)) act ≡ activityStep M w lo hi t act
 unfolding stepOf withMin withMax activityStep
 step-of M w lo hi t act h k = rw (more-is (act .ninfL) h, more-is (act .ninfU) k)
+
+-- a term adds one infinite part to a corner at most
+grows : (b : Bool) (n : ℕ) → choose b n (suc n) ≤ suc n
+unfolding choose
+grows true n = omega arith
+grows false n = omega arith
+
+module _ (M : Model) (w : Work) (lo hi : Float) (t : Term) (act : Activity) where
+  pub count-l-grows : activityStep M w lo hi t act .ninfL ≤ suc (act .ninfL)
+  unfolding activityStep
+  count-l-grows = grows (isFinite (rangeMin (t .coeff) lo hi)) (act .ninfL)
+
+  pub count-u-grows : activityStep M w lo hi t act .ninfU ≤ suc (act .ninfU)
+  unfolding activityStep
+  count-u-grows = grows (isFinite (rangeMax (t .coeff) lo hi)) (act .ninfU)

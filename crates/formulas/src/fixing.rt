@@ -1,6 +1,20 @@
-// Fixed variables, and dual fixing's tests of one variable.
+// Integer and fixed variables, and dual fixing's tests of one variable.
 ghost use mathlib.Core.Path.{_≡_};
-ghost use Rattle.formulas.specs.Fixing.{fixedAt, fallsAt, risesAt};
+ghost use Rattle.formulas.specs.Fixing.{intDomain, mip, fixedAt, blocksAt, fallsAt, risesAt};
+
+// Whether a domain is an integer one: 0 Integer, 1 Real, 2 Boolean.
+pub fn is_int_domain(d: u8) -> bool
+    ensures { λ z. ⌜ z ≡ intDomain d ⌝ }
+{
+    d != 1
+}
+
+// Whether a mode is a Mip's: 0 Lp, 1 Mip, 2 Mip with dual fixing.
+pub fn is_mip(mode: u8) -> bool
+    ensures { λ z. ⌜ z ≡ mip mode ⌝ }
+{
+    mode != 0
+}
 
 // Fixed by the emitted bounds.
 pub fn fixed_at(elo: f64, ehi: f64) -> bool
@@ -10,6 +24,16 @@ pub fn fixed_at(elo: f64, ehi: f64) -> bool
         return floats::is_finite(elo);
     }
     false
+}
+
+// Whether a term keeps its variable from moving: pos where its coefficient is positive, else neg.
+pub fn blocks(a: f64, pos: bool, neg: bool) -> bool
+    ensures { λ z. ⌜ z ≡ blocksAt a pos neg ⌝ }
+{
+    if a > 0.0 {
+        return pos;
+    }
+    neg
 }
 
 // Whether a variable may go to its lower bound, and to its upper: by its objective coefficient, and

@@ -1,9 +1,37 @@
-// What folding does to a row's four floats, and the room that its rewrites take.
+// A row's four floats as written, and as terms are folded out of it; the room that its rewrites take.
 ghost use mathlib.Core.Path.{_≡_};
 ghost use Rattle.definition.specs.Folds as folds;
 ghost use Rattle.formulas.specs.Bare.{bare, limitsOf, ByTol};
-ghost use Rattle.formulas.specs.Folding.{foldedLimits, noSide};
+ghost use Rattle.formulas.specs.Folding.{writtenLimits, foldedLimits, noSide};
 use crate::Limits;
+
+// The row as written, by its comparison: 0 Eq, 1 Le, 2 Ge.
+pub fn written_limits(op: u8, b: f64) -> Limits
+    ensures { λ z. ⌜ z ≡ writtenLimits op b ⌝ }
+{
+    if op == 1 {
+        return Limits {
+            lo: -floats::infinity(),
+            hi: b,
+            foldScale: 0.0,
+            shift: 0.0,
+        };
+    }
+    if op == 2 {
+        return Limits {
+            lo: b,
+            hi: floats::infinity(),
+            foldScale: 0.0,
+            shift: 0.0,
+        };
+    }
+    Limits {
+        lo: b,
+        hi: b,
+        foldScale: 0.0,
+        shift: 0.0,
+    }
+}
 
 // What the binding branch takes out of the row's tolerance.
 pub fn rewrite_room(feas: f64, written: f64, rewritten: f64, fixed: f64) -> f64

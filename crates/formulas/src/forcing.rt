@@ -5,7 +5,7 @@ ghost use Rattle.formulas.specs.Forcing.{forcedBy, sliverFits, cornerOf}
 use crate::sides::budget;
 use tolerances::ROUNDOFF_FLOOR;
 
-// Whether the corner over the emitted box meets the row's bound: before any term is looked at.
+// Whether the corner over the emitted bounds meets the row's bound: before any term is looked at.
 pub fn sliver_fits(feas: f64, terms: usize, sliver: f64, mag: f64) -> bool
     ensures { λ z. ⌜ Says feas terms z (λ M r. sliverFits M r sliver mag) ⌝ }
 {

@@ -2,7 +2,7 @@
 ghost use mathlib.Core.Path.{_≡_};
 ghost use Rattle.definition.specs.Implied as implied;
 ghost use Rattle.formulas.specs.Bare.{bare, Says};
-ghost use Rattle.formulas.specs.Implied.{restIs, hiOf, loOf, quotientOf, relaxOf};
+ghost use Rattle.formulas.specs.Implied.{restIs, hiOf, loOf, boundsAbove, quotientOf, relaxOf};
 use crate::Limits;
 use crate::Rest;
 use crate::Side;
@@ -34,6 +34,16 @@ pub fn lo_of(x: Limits, act: Activity) -> Side
         abs: act.absU,
         slack: act.slackU,
     }
+}
+
+// Whether the side bounds the variable from above: upper says whether it bounds the row so.
+pub fn bounds_above(upper: bool, a: f64) -> bool
+    ensures { λ z. ⌜ z ≡ boundsAbove upper a ⌝ }
+{
+    if a > 0.0 {
+        return upper;
+    }
+    !upper
 }
 
 // The rest of the row at the corner, c being the term's part there.

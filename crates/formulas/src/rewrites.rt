@@ -1,7 +1,7 @@
 // What a rewrite does to one term: a vacuous branch of a binary is made bound-tight.
 ghost use mathlib.Core.Path.{_≡_};
 ghost use lib.Ieee.{Float};
-ghost use Rattle.definition.specs.Rewrites as rewrites;
+ghost use Rattle.definition.specs.Rewrites as defs;
 ghost use Rattle.formulas.specs.Bare.{bare, ByParams};
 ghost use Rattle.formulas.specs.Rewriting.{formIs, rewriteIs, sparedAt, binaryAt, rewriteAt};
 use crate::Form;
@@ -16,7 +16,7 @@ use tolerances::ROUNDOFF_FLOOR;
 
 // Which side a row's one finite bound is on.
 pub fn form_of(x: Limits) -> Form
-    ensures { λ z. ⌜ formIs z ≡ rewrites.formOf (bare x) ⌝ }
+    ensures { λ z. ⌜ formIs z ≡ defs.formOf (bare x) ⌝ }
 {
     if floats::is_finite(x.hi) {
         if floats::is_finite(x.lo) {
@@ -31,8 +31,8 @@ pub fn form_of(x: Limits) -> Form
 }
 
 // How many rewrites that is.
-pub fn count_of(x: Rewrite) -> usize
-    ensures { λ z. ⌜ z ≡ rewrites.rewrites (rewriteIs x) ⌝ }
+pub fn rewrite_count(x: Rewrite) -> usize
+    ensures { λ z. ⌜ z ≡ defs.rewrites (rewriteIs x) ⌝ }
 {
     match x {
         Rewrite::Keeps => 0,
@@ -43,7 +43,7 @@ pub fn count_of(x: Rewrite) -> usize
 
 // The relaxation of the vacuous branch.
 pub fn vacuous_room(f: Form, x: Limits, act: Activity) -> f64
-    ensures { λ z. ⌜ z ≡ rewrites.vacuousRoom (formIs f) (bare x) act ⌝ }
+    ensures { λ z. ⌜ z ≡ defs.vacuousRoom (formIs f) (bare x) act ⌝ }
 {
     match f {
         Form::Le => act.slackU + ROUNDOFF_FLOOR * (act.absU + rhs_mag(x, x.hi) + x.foldScale),
@@ -53,7 +53,7 @@ pub fn vacuous_room(f: Form, x: Limits, act: Activity) -> f64
 }
 
 fn with_l(act: Activity, l: f64) -> Activity
-    ensures { λ z. ⌜ z ≡ rewrites.withL l act ⌝ }
+    ensures { λ z. ⌜ z ≡ defs.withL l act ⌝ }
 {
     Activity {
         l,
@@ -68,7 +68,7 @@ fn with_l(act: Activity, l: f64) -> Activity
 }
 
 fn with_u(act: Activity, u: f64) -> Activity
-    ensures { λ z. ⌜ z ≡ rewrites.withU u act ⌝ }
+    ensures { λ z. ⌜ z ≡ defs.withU u act ⌝ }
 {
     Activity {
         l: act.l,
@@ -84,7 +84,7 @@ fn with_u(act: Activity, u: f64) -> Activity
 
 // The activity after a rewrite of the coefficient a into na.
 pub fn after_coeff(f: Form, a: f64, na: f64, act: Activity) -> Activity
-    ensures { λ z. ⌜ z ≡ rewrites.actAfter (formIs f) a (rewrites.coeffOnly na) act ⌝ }
+    ensures { λ z. ⌜ z ≡ defs.actAfter (formIs f) a (defs.coeffOnly na) act ⌝ }
 {
     match f {
         Form::Le => with_l(act, act.l + (na - a)),
@@ -95,7 +95,7 @@ pub fn after_coeff(f: Form, a: f64, na: f64, act: Activity) -> Activity
 
 // The activity after a rewrite that moves the bound by delta.
 pub fn after_bound(f: Form, delta: f64, act: Activity) -> Activity
-    ensures { λ z. ⌜ ((a na bp : Float) → z ≡ rewrites.actAfter (formIs f) a (rewrites.coeffBound na bp delta) act) ⌝ }
+    ensures { λ z. ⌜ ((a na bp : Float) → z ≡ defs.actAfter (formIs f) a (defs.coeffBound na bp delta) act) ⌝ }
 {
     match f {
         Form::Le => with_u(act, act.u - delta),
@@ -105,7 +105,7 @@ pub fn after_bound(f: Form, delta: f64, act: Activity) -> Activity
 }
 
 pub fn act_after(f: Form, a: f64, x: Rewrite, act: Activity) -> Activity
-    ensures { λ z. ⌜ z ≡ rewrites.actAfter (formIs f) a (rewriteIs x) act ⌝ }
+    ensures { λ z. ⌜ z ≡ defs.actAfter (formIs f) a (rewriteIs x) act ⌝ }
 {
     match x {
         Rewrite::Keeps => act,
@@ -116,7 +116,7 @@ pub fn act_after(f: Form, a: f64, x: Rewrite, act: Activity) -> Activity
 
 // A Le row, b its bound. At zero the branch is vacuous, and a and b shrink.
 pub fn shrink_le(nz: f64, b: f64, restU: f64, a: f64) -> Rewrite
-    ensures { λ z. ⌜ ByParams (rewriteIs z) (λ M. rewrites.shrinkLe M nz b restU a) ⌝ }
+    ensures { λ z. ⌜ ByParams (rewriteIs z) (λ M. defs.shrinkLe M nz b restU a) ⌝ }
 {
     let bp = restU + nz;
     let delta = b - bp;
@@ -132,7 +132,7 @@ pub fn shrink_le(nz: f64, b: f64, restU: f64, a: f64) -> Rewrite
 
 // At one the branch is vacuous, and |a| shrinks.
 pub fn raise_le(nz: f64, b: f64, restU: f64, a: f64) -> Rewrite
-    ensures { λ z. ⌜ ByParams (rewriteIs z) (λ M. rewrites.raiseLe M nz b restU a) ⌝ }
+    ensures { λ z. ⌜ ByParams (rewriteIs z) (λ M. defs.raiseLe M nz b restU a) ⌝ }
 {
     let na = b - (restU + nz);
     if na - a > COEFF_MIN_IMPROVE * -a {
@@ -145,7 +145,7 @@ pub fn raise_le(nz: f64, b: f64, restU: f64, a: f64) -> Rewrite
 }
 
 pub fn vacuous_le(nz: f64, x: Limits, act: Activity, a: f64) -> Rewrite
-    ensures { λ z. ⌜ ByParams (rewriteIs z) (λ M. rewrites.vacuousLe M nz (bare x) act a) ⌝ }
+    ensures { λ z. ⌜ ByParams (rewriteIs z) (λ M. defs.vacuousLe M nz (bare x) act a) ⌝ }
 {
     let restU = act.u - floats::larger(a, 0.0);
     if a > 0.0 {
@@ -156,7 +156,7 @@ pub fn vacuous_le(nz: f64, x: Limits, act: Activity, a: f64) -> Rewrite
 
 // A Ge row likewise.
 pub fn shrink_ge(nz: f64, b: f64, restL: f64, a: f64) -> Rewrite
-    ensures { λ z. ⌜ ByParams (rewriteIs z) (λ M. rewrites.shrinkGe M nz b restL a) ⌝ }
+    ensures { λ z. ⌜ ByParams (rewriteIs z) (λ M. defs.shrinkGe M nz b restL a) ⌝ }
 {
     let bp = restL - nz;
     let delta = bp - b;
@@ -171,7 +171,7 @@ pub fn shrink_ge(nz: f64, b: f64, restL: f64, a: f64) -> Rewrite
 }
 
 pub fn lower_ge(nz: f64, b: f64, restL: f64, a: f64) -> Rewrite
-    ensures { λ z. ⌜ ByParams (rewriteIs z) (λ M. rewrites.lowerGe M nz b restL a) ⌝ }
+    ensures { λ z. ⌜ ByParams (rewriteIs z) (λ M. defs.lowerGe M nz b restL a) ⌝ }
 {
     let na = b - (restL - nz);
     if a - na > COEFF_MIN_IMPROVE * a {
@@ -184,7 +184,7 @@ pub fn lower_ge(nz: f64, b: f64, restL: f64, a: f64) -> Rewrite
 }
 
 pub fn vacuous_ge(nz: f64, x: Limits, act: Activity, a: f64) -> Rewrite
-    ensures { λ z. ⌜ ByParams (rewriteIs z) (λ M. rewrites.vacuousGe M nz (bare x) act a) ⌝ }
+    ensures { λ z. ⌜ ByParams (rewriteIs z) (λ M. defs.vacuousGe M nz (bare x) act a) ⌝ }
 {
     let restL = act.l - floats::smaller(a, 0.0);
     if a < 0.0 {
@@ -194,7 +194,7 @@ pub fn vacuous_ge(nz: f64, x: Limits, act: Activity, a: f64) -> Rewrite
 }
 
 pub fn vacuous(f: Form, nz: f64, x: Limits, act: Activity, a: f64) -> Rewrite
-    ensures { λ z. ⌜ ByParams (rewriteIs z) (λ M. rewrites.vacuous M (formIs f) nz (bare x) act a) ⌝ }
+    ensures { λ z. ⌜ ByParams (rewriteIs z) (λ M. defs.vacuous M (formIs f) nz (bare x) act a) ⌝ }
 {
     match f {
         Form::Le => {

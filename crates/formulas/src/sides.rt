@@ -84,7 +84,7 @@ pub fn unreachable(feas: f64, terms: usize, x: Limits, act: Activity) -> bool
     below_lo(feas, terms, x, act)
 }
 
-// Forcing, the precheck over the working box.
+// Forcing, the precheck over the working bounds.
 pub fn near_min(feas: f64, terms: usize, x: Limits, act: Activity) -> bool
     ensures { λ z. ⌜ Says feas terms z (λ M r. sides.nearMin M r (bare x) act) ⌝ }
 {

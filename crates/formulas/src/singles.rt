@@ -3,11 +3,30 @@
 ghost use mathlib.Core.Path.{_≡_};
 ghost use Rattle.definition.specs.Singles as singles;
 ghost use Rattle.formulas.specs.Bare.{bare, Says, ByTol};
-ghost use Rattle.formulas.specs.Singles.{missesAt, meetsLower, meetsUpper};
+ghost use Rattle.formulas.specs.Singles.{lowerSide, upperSide, missesAt, meetsLower, meetsUpper};
 use crate::Limits;
 use crate::sides::budget;
 use crate::sides::rhs_mag;
 use tolerances::ROUNDOFF_FLOOR;
+
+// The side of the row that bounds the variable from below, and the one from above.
+pub fn lower_side(x: Limits, a: f64) -> f64
+    ensures { λ z. ⌜ z ≡ lowerSide (bare x) a ⌝ }
+{
+    if a > 0.0 {
+        return x.lo;
+    }
+    x.hi
+}
+
+pub fn upper_side(x: Limits, a: f64) -> f64
+    ensures { λ z. ⌜ z ≡ upperSide (bare x) a ⌝ }
+{
+    if a > 0.0 {
+        return x.hi;
+    }
+    x.lo
+}
 
 // The row's magnitude where the side b is tight.
 pub fn finite_mag(x: Limits, b: f64) -> f64

@@ -1,4 +1,4 @@
--- THE BUDGET OF A ROW, its tolerance less its margin, is a tolerance: from 0 to 3/8, for magnitudes up to 2 ^ 45 and up to 256 terms. The margin is not negative and at most half the tolerance.
+-- A ROW'S TOLERANCE, MARGIN AND BUDGET, the tolerance less the margin, are each from 0 to 3/8, for magnitudes up to 2 ^ 45 and up to 256 terms; so is a bound's tolerance. 1e-14 * 2 ^ 45 is below 3/8.
 use mathlib.Core.Path.{_≡_, refl, sym, ap, _∙_, subst}
 use Prim.Native.Nat.{ℕ, zero, suc, _+_, _-_, _*_, _^_, _≤_, _<_, min, zero-le}
 use native.Mathlib.Nat.{le-trans, le-of-eq, mul-le-mul, mul-le-mul-right, mul-comm, add-zero}
@@ -14,12 +14,12 @@ use Rattle.floats.specs.Order.{Real, num-real, rank, rank-num, nlt→⊑, lt→
 use Rattle.floats.specs.Meaning.{minf-first, minf-second}
 use Rattle.floats.specs.Ranks as K
 use Rattle.floats.specs.Ranks.{sub-result, held-of}
-use Rattle.floats.specs.Points.{int, Bounded, Is, of-is, add-is, of-units, whole-num}
+use Rattle.floats.specs.Points.{int, Bounded, Is, of-is, add-is, of-units, whole-num, abs-is}
 use Rattle.floats.specs.WholeRounding.{NonNeg, Tol, nonneg-real, nonneg-rank, tol-real, tol-low, tol-high, tol-of, tol-num, tol-most, tol-least, small-num, zero-held, link, sub-above, sub-below}
 use Rattle.floats.specs.Slacks.{product-nonneg, product-most, whole-nonneg, roundoff, eighths-held, most-units, max-tol, pos-parts}
-use Rattle.floats.specs.Num.{_⊕_, _⊖_, _⊗_, 2f, ½f, minf, ofCount}
+use Rattle.floats.specs.Num.{choose, _⊕_, _⊖_, _⊗_, 2f, ½f, abs, isFinite, minf, ofCount}
 use Rattle.floats.specs.Whole as W
-use Rattle.tolerances.specs.Tol.{ROUNDOFF-FLOOR, UNIT-ROUNDOFF, rowTolerance, slackMargin, slackTol}
+use Rattle.tolerances.specs.Tol.{ROUNDOFF-FLOOR, UNIT-ROUNDOFF, rowTolerance, boundTolerance, slackMargin, slackTol}
 
 unit-parts : Parts UNIT-ROUNDOFF false (2 ^ 1021)
 unfolding ofBits mags sign fits
@@ -115,15 +115,19 @@ margin r x a hx = go (lt h x) refl
     go true e = subst (Margin r) (sym (minf-second x (½f ⊗ r) e)) (made (½f ⊗ r) ph (upto (rank (½f ⊗ r)) (units r) (tol-least a) below))
     go false e = subst (Margin r) (sym (minf-first x (½f ⊗ r) (nonneg-real hx .real) e)) (made x hx (link (rank x) (rank (½f ⊗ r)) (units r) (nlt→⊑ (½f ⊗ r) x (nonneg-real ph) (nonneg-real hx) (subst (λ (t : Bool). T (not t)) (sym e) tt)) (upto (rank (½f ⊗ r)) (units r) (tol-least a) below)))
 
+margin-of : {t m : Float} (n : ℕ) → n ≤ 256 → Tol t → Bounded (2 ^ 45) m → pos 0 ⊑ int m → Margin (rowTolerance t m) (slackMargin t m n)
+unfolding slackMargin
+margin-of {t} {m} n h a b o =
+    let q = part n h in
+    margin (rowTolerance t m) ((ofCount n ⊕ 2f) ⊗ UNIT-ROUNDOFF ⊗ m) (row-tol a b o) (product-nonneg ((ofCount n ⊕ 2f) ⊗ UNIT-ROUNDOFF) m (q .num) (whole-num m (b .whole)) (q .low) (whole-nonneg m (b .whole) o))
+
 pub budget : {t m : Float} (n : ℕ) → n ≤ 256 → Tol t → Bounded (2 ^ 45) m → pos 0 ⊑ int m → Tol (slackTol t m n)
-unfolding slackTol slackMargin
+unfolding slackTol
 budget {t} {m} n h a b o =
     let r = rowTolerance t m in
+    let s = slackMargin t m n in
     let R = row-tol a b o in
-    let q = part n h in
-    let x = (ofCount n ⊕ 2f) ⊗ UNIT-ROUNDOFF ⊗ m in
-    let M = margin r x R (product-nonneg ((ofCount n ⊕ 2f) ⊗ UNIT-ROUNDOFF) m (q .num) (whole-num m (b .whole)) (q .low) (whole-nonneg m (b .whole) o)) in
-    let s = minf x (½f ⊗ r) in
+    let M = margin-of n h a b o in
     let nr = tol-num R in
     tol-of (sub-result r s nr (M .num) .real)
     (sub-above r s nr (M .num) (pos 0) zero-held (not-below (units r) (units s) (M .high)))
@@ -134,3 +138,23 @@ budget {t} {m} n h a b o =
 
     smaller : (u v : ℤ) → pos 0 ⊑ v → u -ℤ v ⊑ u
     smaller u v h = omega (arith, sub-parts u v)
+
+-- the margin itself
+pub margin-tol : {t m : Float} (n : ℕ) → n ≤ 256 → Tol t → Bounded (2 ^ 45) m → pos 0 ⊑ int m → Tol (slackMargin t m n)
+margin-tol {t} {m} n h a b o =
+    let r = rowTolerance t m in
+    let s = slackMargin t m n in
+    let M = margin-of n h a b o in
+    let e = rank-num s (M .num) in
+    tol-of (num-real s (M .num)) (subst (λ (z : ℤ). pos 0 ⊑ z) (sym e) (M .low)) (link (rank s) (units r) (pos (3 * 2 ^ 1071)) (subst (λ (z : ℤ). z ⊑ units r) (sym e) (M .high)) (tol-most (row-tol a b o)))
+
+-- the tolerance at a bound
+pub bound-tol : {t b : Float} → Tol t → Bounded (2 ^ 45) b → Tol (boundTolerance t b)
+unfolding boundTolerance
+bound-tol {t} {b} a k =
+    let i = abs-is (k .whole) in
+    either-one (isFinite b) (row-tol a (bounded (2 ^ 45) (abs b) (pos (A (int b))) i (le-trans (le-of-eq (add-zero (A (int b)))) (k .small))) (subst (λ (z : ℤ). pos 0 ⊑ z) (sym (i .is)) zero-le)) a
+  where
+    either-one : (c : Bool) {x y : Float} → Tol x → Tol y → Tol (choose c x y)
+    either-one true p q = unfold choose in p
+    either-one false p q = unfold choose in q

@@ -1,11 +1,11 @@
 -- THE FLOAT LAWS of the farm theorem, as one record, and the proof that they hold: `laws`. Each is proved in `floats` (Points, Compare, WholeRounding, Quotients, Slacks) or in Budget.
 use Prim.Native.Nat.{ℕ, zero, suc, _+_, _-_, _*_, _^_, _≤_, _<_}
-use mathlib.Core.Path.{_≡_}
+use mathlib.Core.Path.{_≡_, refl}
 use mathlib.Core.Logic.{_≢_}
 use mathlib.Core.Bool.{Bool, true, false, not, _&&_, _||_}
 use lib.Dec.{T, eqb, ltb}
 use lib.IntN.{ℤ, pos, negsuc, negℤ, _+ℤ_, _-ℤ_, _*ℤ_}
-use lib.Ieee.{Float, binary64, lt, le, eq, neg, ofInt, ofBits}
+use lib.Ieee.{Float, binary64, lt, le, eq, neg, round, ofInt, ofBits}
 use Rattle.floats.specs.Num.{_⊕_, _⊖_, _⊗_, _⊘_, 0f, ½f, isFinite, abs, maxf, minf, floor, ceil}
 use Rattle.floats.specs.Zed.{P, N, A, _⊑_, _⊏_}
 use Rattle.floats.specs.Points.{int, Whole, Bounded, Held, _≼_, _≺_, _⊀_, Is}
@@ -21,6 +21,10 @@ use Rattle.tolerances.specs.Budget as budgets
 -- 1e-9
 abbrev pub REDUNDANT-MARGIN : Float
 REDUNDANT-MARGIN = ofBits binary64 0x3e11_2e0b_e826_d695
+
+pub redundant-literal : REDUNDANT-MARGIN ≡ round binary64 false 1 (10 ^ 9)
+unfolding ofBits round
+redundant-literal = refl
 
 pub record Laws : Type 0 where
   -- whole numbers: operations are exact up to 2 ^ 53, and comparisons decide the order

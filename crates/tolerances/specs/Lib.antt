@@ -1,4 +1,6 @@
+-- The definitions of the tolerances (Tol, Terms, Answers), and their laws (Budget, Limit, Laws).
 pub mod Tol
+pub mod Terms
 pub mod Answers
 pub mod Budget
 pub mod Laws

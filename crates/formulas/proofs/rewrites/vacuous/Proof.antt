@@ -12,9 +12,6 @@ enum-told c = search needs
 vacuous-le-requires : tie.Need-vacuous-le-requires
 vacuous-le-requires c κs = search needs
 
-dummy : {A : Type 0} → A → A
-dummy x = x
-
 returns : tie.Need-returns
 unfolding vacuous choose
 returns c = record { of = λ M e. simp (c .before .before .before .enum-told .given .1, eq-eqb _ _ (c .before .if1 .taken)) (c .vacuous-le .ensures .of M e) }

@@ -1,8 +1,8 @@
--- `count_of` computes its definition.
+-- `rewrite_count` computes its definition.
 use borrow.Author.Needs.{needs}
 use Rattle.definition.specs.Rewrites.{rewrites}
-use Rattle.formulas.proofs.rewrites.count_of.Statement.{statement}
-use Rattle.formulas.proofs.rewrites.count_of.Tie as tie
+use Rattle.formulas.proofs.rewrites.rewrite_count.Statement.{statement}
+use Rattle.formulas.proofs.rewrites.rewrite_count.Tie as tie
 
 enum-told : tie.Need-enum-told
 enum-told c = search needs
@@ -25,5 +25,5 @@ returns-3 : tie.Need-returns-3
 unfolding rewrites
 returns-3 c = cc
 
-pub count-of-spec : {M : Type 1} → statement M
-count-of-spec = tie.close (tie.spec enum-told enum-told-2 enum-told-3 returns returns-2 returns-3)
+pub rewrite-count-spec : {M : Type 1} → statement M
+rewrite-count-spec = tie.close (tie.spec enum-told enum-told-2 enum-told-3 returns returns-2 returns-3)
