@@ -19,3 +19,4 @@ pub mod NoNan
 pub mod Coefficients
 pub mod Zeros
 pub mod Theorems
+pub mod Caps
