@@ -15,9 +15,9 @@ module _ (M : Model) (row : Row) (n : ℕ) where
   unfolding spared
   long-row-spared p q = rw (lt-ltb _ _ p, lt-ltb _ _ q) (either (eqb n 0))
     where
-    either : (b : Bool) → (b || true) ≡ true
-    either true = refl
-    either false = refl
+      either : (b : Bool) → (b || true) ≡ true
+      either true = refl
+      either false = refl
 
   pub short-row-tightened : length (row .terms) ≤ M .params .coeffTightenShortRow → (n ≡ 0 → ⊥) → spared M row n ≡ false
   unfolding spared
