@@ -2,13 +2,16 @@
 -- and rows whose terms are the model's variables. k counts the wave's rows still to come.
 use Prim.Native.Nat.{ℕ, zero, suc, _+_, _≤_, _<_}
 use mathlib.Core.Path.{_≡_}
-use mathlib.Core.Bool.{Bool, true, false}
+use mathlib.Core.Bool.{Bool, true, false, not, _&&_, _||_}
 use mathlib.Core.List.{List, [], _∷_, _++_}
 use mathlib.Core.Option.{Option, none, some}
+use lib.Dec.{eqb}
 use lib.ListN.{length, getD}
+use lib.Ieee.{Float, eq}
+use Rattle.floats.specs.Num.{0f}
 use Rattle.tolerances.specs.Tol.{Term}
 use Rattle.definition.specs.Model.{Model, written, Row, Binding}
-use Rattle.definition.specs.Work.{Work, noRow, hasTerm}
+use Rattle.definition.specs.Work.{Work, noRow, has, hasTerm}
 
 -- how many are true
 unfoldable pub marked : List Bool → ℕ
@@ -28,10 +31,15 @@ pub data AllIn (all : List Term) : List Term → Type 0 where
   allIn[] : AllIn all []
   allIn∷ : {t : Term} {ts : List Term} → hasTerm (t .var) all ≡ true → AllIn all ts → AllIn all (t ∷ ts)
 
--- every rewritten binary is a term of the row, or folded out of it, and of the row as written
+-- v has a term with a coefficient that is not zero: such a term may be folded, and is never lost
+unfoldable pub hasNonzero : ℕ → List Term → Bool
+hasNonzero v [] = false
+hasNonzero v (t ∷ ts) = (eqb (t .var) v && not (eq (t .coeff) 0f)) || hasNonzero v ts
+
+-- no binary is rewritten twice, and every rewritten binary is a term of the row or folded out of it
 pub data BinariesIn (M : Model) (r : ℕ) (row : Row) : List ℕ → Type 0 where
   binariesIn[] : BinariesIn M r row []
-  binariesIn∷ : {v : ℕ} {vs : List ℕ} → hasTerm v (row .terms ++ row .folded) ≡ true → BinariesIn M r row vs → BinariesIn M r row (v ∷ vs)
+  binariesIn∷ : {v : ℕ} {vs : List ℕ} → has v vs ≡ false → hasNonzero v (row .terms ++ row .folded) ≡ true → BinariesIn M r row vs → BinariesIn M r row (v ∷ vs)
 
 pub data BindingIn (M : Model) (r : ℕ) (row : Row) : Option Binding → Type 0 where
   noneIn : BindingIn M r row none
