@@ -1,0 +1,11 @@
+pub mod Format
+pub mod Places
+pub mod Reading
+pub mod Skips
+pub mod Fills
+pub mod Leaves
+pub mod Answers
+pub mod Encode
+pub mod RoundTrip
+pub mod Cases
+pub mod Longest

@@ -1,0 +1,5 @@
+pub mod Text
+pub mod TextLaws
+pub mod Page
+pub mod Printing
+pub mod Cases
