@@ -1,0 +1,16 @@
+// What is read off the state: each function's result is the definition's, of whatever state the
+// working slices show.
+mod coeffs;
+mod empty;
+mod rows;
+mod vars;
+
+pub use coeffs::row_coeff;
+pub use coeffs::written_coeff;
+pub use empty::empty_row_violated;
+pub use rows::activity;
+pub use rows::limits;
+pub use vars::bound_tol;
+pub use vars::fixed_value;
+pub use vars::is_int;
+pub use vars::is_int_domain;
