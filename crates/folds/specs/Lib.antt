@@ -1,0 +1,14 @@
+pub mod Apart
+pub mod Sized
+pub mod Written
+pub mod Stands
+pub mod Counting
+pub mod Folding
+pub mod Keeping
+pub mod FoldStep
+pub mod FoldLoop
+pub mod Besides
+pub mod Relaxing
+pub mod WrittenInv
+pub mod Kept
+pub mod Holding
