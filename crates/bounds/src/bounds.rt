@@ -7,17 +7,19 @@ ghost use Rattle.space.specs.Store.{floatsOf, numbersOf, HoldsF, HoldsN};
 ghost use Rattle.view.specs.Acts.{Ready, Acts, Tries, ReadyN, ActsN};
 ghost use Rattle.view.specs.Adjacency.{Adj};
 ghost use Rattle.view.specs.Known.{Bounding};
+ghost use Rattle.bounds.specs.Flags.{FlagsKept};
 ghost use Rattle.bounds.specs.Moves.{EmitsFour, intCode};
 use crate::marks::mark_var;
 use formulas::Move;
 use space::Shape;
 use space::Step;
 
-// = fix
-pub fn fix(adj: &[usize], w: &mut [f64], m: &mut [usize], s: Shape, v: usize, x: f64)
+// = fix; dual fixing's flags stay
+pub fn fix_beside(adj: &[usize], w: &mut [f64], m: &mut [usize], s: Shape, v: usize, x: f64)
     requires { ⌜ (v < s .vars) × HoldsF s (now w) × HoldsN s (now m) ⌝ }
     requires { ⌜ Ready (Adj (now adj)) s (floatsOf s (now w)) (numbersOf s (now m)) ⌝ }
     ensures { λ _. ⌜ Acts (Adj (now (adj .entry))) s (floatsOf s (now (w .entry))) (numbersOf s (now (m .entry))) (floatsOf s (now (w .exit))) (numbersOf s (now (m .exit))) (λ M. definition.fix M v x) ⌝ }
+    ensures { λ _. ⌜ FlagsKept (numbersOf s (now (m .entry))) (numbersOf s (now (m .exit))) ⌝ }
 {
     space::put_wlo(w, s, v, x);
     space::put_whi(w, s, v, x);
@@ -25,6 +27,15 @@ pub fn fix(adj: &[usize], w: &mut [f64], m: &mut [usize], s: Shape, v: usize, x:
     space::put_ehi(w, s, v, x);
     space::count_fixed(m, s);
     mark_var(adj, m, s, v);
+}
+
+// = fix
+pub fn fix(adj: &[usize], w: &mut [f64], m: &mut [usize], s: Shape, v: usize, x: f64)
+    requires { ⌜ (v < s .vars) × HoldsF s (now w) × HoldsN s (now m) ⌝ }
+    requires { ⌜ Ready (Adj (now adj)) s (floatsOf s (now w)) (numbersOf s (now m)) ⌝ }
+    ensures { λ _. ⌜ Acts (Adj (now (adj .entry))) s (floatsOf s (now (w .entry))) (numbersOf s (now (m .entry))) (floatsOf s (now (w .exit))) (numbersOf s (now (m .exit))) (λ M. definition.fix M v x) ⌝ }
+{
+    fix_beside(adj, w, m, s, v, x);
 }
 
 // = markTightened

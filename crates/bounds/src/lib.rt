@@ -4,5 +4,6 @@ mod bounds;
 mod marks;
 
 pub use bounds::fix;
+pub use bounds::fix_beside;
 pub use marks::mark_row;
 pub use marks::mark_var;

@@ -9,6 +9,7 @@ ghost use Rattle.view.specs.Inv.{Below};
 ghost use Rattle.view.specs.Acts.{ReadyN, ActsN, Any};
 ghost use Rattle.view.specs.Marks.{markAll};
 ghost use Rattle.view.specs.Adjacency.{Adj};
+ghost use Rattle.bounds.specs.Flags.{FlagsKept};
 use space::Shape;
 
 // = markRow
@@ -16,6 +17,7 @@ pub fn mark_row(m: &mut [usize], s: Shape, r: usize)
     requires { ⌜ (r < s .rows) × HoldsN s (now m) ⌝ }
     requires { ⌜ ReadyN Any s (numbersOf s (now m)) ⌝ }
     ensures { λ _. ⌜ ActsN Any s (numbersOf s (now (m .entry))) (numbersOf s (now (m .exit))) (λ M. markRow r) ⌝ }
+    ensures { λ _. ⌜ FlagsKept (numbersOf s (now (m .entry))) (numbersOf s (now (m .exit))) ⌝ }
 {
     space::put_coeff_dirty(m, s, r, 1);
     let d = space::get_dirty(m, s, r);
@@ -34,6 +36,7 @@ fn mark_rows(adj: &[usize], m: &mut [usize], s: Shape, a: usize, e: usize)
     requires { ⌜ Below (s .rows) (slice a e (now adj)) ⌝ }
     requires { ⌜ ReadyN Any s (numbersOf s (now m)) ⌝ }
     ensures { λ _. ⌜ ActsN Any s (numbersOf s (now (m .entry))) (numbersOf s (now (m .exit))) (λ M. markAll (slice a e (now (adj .entry)))) ⌝ }
+    ensures { λ _. ⌜ FlagsKept (numbersOf s (now (m .entry))) (numbersOf s (now (m .exit))) ⌝ }
 {
     let mut i = a;
     while i < e {
@@ -48,6 +51,7 @@ pub fn mark_var(adj: &[usize], m: &mut [usize], s: Shape, v: usize)
     requires { ⌜ (v < s .vars) × HoldsN s (now m) ⌝ }
     requires { ⌜ ReadyN (Adj (now adj)) s (numbersOf s (now m)) ⌝ }
     ensures { λ _. ⌜ ActsN (Adj (now (adj .entry))) s (numbersOf s (now (m .entry))) (numbersOf s (now (m .exit))) (λ M. markVar M v) ⌝ }
+    ensures { λ _. ⌜ FlagsKept (numbersOf s (now (m .entry))) (numbersOf s (now (m .exit))) ⌝ }
 {
     let base = s.vars + 1;
     let a = base + adj[v];

@@ -12,7 +12,7 @@ use space::Shape;
 
 // Where term k of a row stands whose span is a up to e, with n live terms: the live ones come first,
 // then the folded ones.
-fn place(a: usize, e: usize, n: usize, k: usize) -> usize
+pub fn place(a: usize, e: usize, n: usize, k: usize) -> usize
     requires { ⌜ (a + n ≤ e) × (k < e - a) ⌝ }
     ensures { λ z. ⌜ z ≡ placeOf a e n k ⌝ }
 {

@@ -5,6 +5,7 @@ mod empty;
 mod rows;
 mod vars;
 
+pub use coeffs::place;
 pub use coeffs::row_coeff;
 pub use coeffs::written_coeff;
 pub use empty::empty_row_violated;

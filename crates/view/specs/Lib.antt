@@ -7,5 +7,6 @@ pub mod Marks
 pub mod Adjacency
 pub mod Bounds
 pub mod Steps
+pub mod Changes
 pub mod Known
 pub mod Rows

@@ -24,7 +24,7 @@ same-length c = search needs
 
 -- src/bounds.rt:27:1
 returns : tie.Need-returns
-returns c = tighten-end _ (tightened-length _ _ (c .before .before .before .before .before .before .before .before .before .before .pre .0 .1)) (c .before .before .before .before .before .before .count-tightened .ensures) (c .before .before .mark-var .ensures)
+returns c = tighten-end _ (tightened-length _ _ (c .before .before .before .before .before .before .before .before .before .before .pre .0 .1)) (c .before .before .before .before .before .before .count-tightened .ensures) (c .before .before .mark-var .ensures .0)
 
 pub mark-tightened-spec : {M : Type 1} → statement M
 mark-tightened-spec =

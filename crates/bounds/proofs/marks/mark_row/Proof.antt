@@ -1,5 +1,6 @@
 use native.Mathlib.Omega.{arith}
 use Rattle.view.specs.Marks.{mark-room, mark-old, mark-new}
+use Rattle.bounds.specs.Flags.{flags-old, flags-new}
 use Rattle.space.specs.Blocks.{queue-length, queued-length}
 use borrow.Author.Needs.{needs}
 use Rattle.bounds.proofs.marks.mark_row.Statement.{statement}
@@ -27,7 +28,7 @@ same-length c = search needs
 
 -- src/marks.rt:23:9
 returns : tie.Need-returns
-returns c = mark-old (c .before .before .before .before .before .before .before .before .pre .0 .0) (c .before .before .before .before .before .put-coeff-dirty .ensures) (c .before .get-dirty .ensures) (c .if1 .taken)
+returns c = (mark-old (c .before .before .before .before .before .before .before .before .pre .0 .0) (c .before .before .before .before .before .put-coeff-dirty .ensures) (c .before .get-dirty .ensures) (c .if1 .taken), flags-old _ (c .before .before .before .before .before .put-coeff-dirty .ensures))
 
 -- src/marks.rt:25:5
 put-dirty-requires : tie.Need-put-dirty-requires
@@ -55,7 +56,7 @@ same-length-2 c = search needs
 
 -- src/marks.rt:15:1
 returns-2 : tie.Need-returns-2
-returns-2 c = mark-new (c .before .before .before .before .before .before .before .before .before .before .before .before .before .before .before .before .before .before .before .before .before .before .pre .0 .0) (queue-length _ _ (c .before .before .before .before .before .before .before .before .before .before .before .before .before .before .before .before .before .before .before .before .before .before .pre .0 .1)) (queued-length _ _ (c .before .before .before .before .before .before .before .before .before .before .before .before .before .before .before .before .before .before .before .before .before .before .pre .0 .1)) (c .before .before .before .before .before .before .before .before .before .before .before .before .before .before .before .before .before .before .before .put-coeff-dirty .ensures) (c .before .before .before .before .before .before .before .before .before .before .before .before .before .before .before .get-dirty .ensures) (c .before .before .before .before .before .before .before .before .before .before .before .before .before .before .if1 .left) (c .before .before .before .before .before .before .before .before .before .before .before .before .put-dirty .ensures) (c .before .before .before .before .before .before .before .before .get-queued .ensures) (c .before .before .before .before .before .before .put-queue .ensures) (c .before .before .put-queued .ensures)
+returns-2 c = (mark-new (c .before .before .before .before .before .before .before .before .before .before .before .before .before .before .before .before .before .before .before .before .before .before .pre .0 .0) (queue-length _ _ (c .before .before .before .before .before .before .before .before .before .before .before .before .before .before .before .before .before .before .before .before .before .before .pre .0 .1)) (queued-length _ _ (c .before .before .before .before .before .before .before .before .before .before .before .before .before .before .before .before .before .before .before .before .before .before .pre .0 .1)) (c .before .before .before .before .before .before .before .before .before .before .before .before .before .before .before .before .before .before .before .put-coeff-dirty .ensures) (c .before .before .before .before .before .before .before .before .before .before .before .before .before .before .before .get-dirty .ensures) (c .before .before .before .before .before .before .before .before .before .before .before .before .before .before .if1 .left) (c .before .before .before .before .before .before .before .before .before .before .before .before .put-dirty .ensures) (c .before .before .before .before .before .before .before .before .get-queued .ensures) (c .before .before .before .before .before .before .put-queue .ensures) (c .before .before .put-queued .ensures), flags-new _ _ _ (c .before .before .before .before .before .before .before .before .before .before .before .before .before .before .before .before .before .before .before .put-coeff-dirty .ensures) (c .before .before .before .before .before .before .before .before .before .before .before .before .put-dirty .ensures) (c .before .before .before .before .before .before .put-queue .ensures) (c .before .before .put-queued .ensures))
 
 pub mark-row-spec : {M : Type 1} → statement M
 mark-row-spec =

@@ -3,6 +3,7 @@ use native.Mathlib.Omega.{arith}
 use mathlib.Core.Path.{_≡_, _∙_, refl}
 use lib.ListN.{length}
 use Rattle.space.specs.Store.{numbersOf}
+use Rattle.bounds.specs.Flags.{FlagsKept, flags-refl, flags-then}
 use Rattle.view.specs.Marks.{RowsInv, rows-start, rows-row, rows-turn, rows-end}
 use borrow.Author.Needs.{needs}
 use Rattle.bounds.proofs.marks.mark_rows.Statement.{statement}
@@ -12,14 +13,14 @@ use Rattle.bounds.proofs.marks.mark_rows.Lts as lts
 use Rattle.bounds.proofs.marks.mark_row.Reads as mark-row-reads
 
 abbrev Inv-loop : tie.InvT-loop
-Inv-loop adj m₀ s a e i₀ m i = (length m ≡ length m₀) × RowsInv s adj a e i (numbersOf s m₀) (numbersOf s m)
+Inv-loop adj m₀ s a e i₀ m i = (length m ≡ length m₀) × RowsInv s adj a e i (numbersOf s m₀) (numbersOf s m) × FlagsKept (numbersOf s m₀) (numbersOf s m)
 
 abbrev μ-loop : tie.MeasureT-loop
 μ-loop adj m₀ s a e i₀ m i = e - i
 
 -- src/marks.rt:39:5
 loop-holds : tie.Need-loop-holds Inv-loop μ-loop
-loop-holds c = (refl, search rows-start)
+loop-holds c = (refl, search rows-start, flags-refl)
 
 -- src/marks.rt:40:17
 mul-r : tie.Need-mul-r Inv-loop μ-loop
@@ -43,7 +44,7 @@ loop-less c = search needs
 
 -- src/marks.rt:39:5
 loop-again : tie.Need-loop-again Inv-loop μ-loop
-loop-again c = (c .before .before .mark-row .kept .0 ∙ c .before .before .before .before .before .before .loop .inv .0, rows-turn (c .before .before .before .before .before .before .loop .inv .1) (omega (arith, c .before .before .before .before .before .loop-test)) refl (c .before .before .mark-row .ensures))
+loop-again c = (c .before .before .mark-row .kept .0 ∙ c .before .before .before .before .before .before .loop .inv .0, rows-turn (c .before .before .before .before .before .before .loop .inv .1) (omega (arith, c .before .before .before .before .before .loop-test)) refl (c .before .before .mark-row .ensures .0), flags-then (c .before .before .before .before .before .before .loop .inv .2) (c .before .before .mark-row .ensures .1))
 
 -- src/marks.rt:32:1
 same-length : tie.Need-same-length Inv-loop μ-loop
@@ -51,7 +52,7 @@ same-length c = search needs
 
 -- src/marks.rt:32:1
 returns : tie.Need-returns Inv-loop μ-loop
-returns c = rows-end (c .before .loop .inv .1) (omega (arith, c .loop-test))
+returns c = (rows-end (c .before .loop .inv .1) (omega (arith, c .loop-test)), c .before .loop .inv .2)
 
 pub mark-rows-spec : {M : Type 1} → statement M
 mark-rows-spec =

@@ -51,7 +51,7 @@ same-length c = search needs
 
 -- src/marks.rt:47:1
 returns : tie.Need-returns
-returns c = var-end (c .before .before .before .before .before .before .before .before .before .pre .0 .0) refl refl (c .before .before .mark-rows .ensures)
+returns c = (var-end (c .before .before .before .before .before .before .before .before .before .pre .0 .0) refl refl (c .before .before .mark-rows .ensures .0), c .before .before .mark-rows .ensures .1)
 
 pub mark-var-spec : {M : Type 1} → statement M
 mark-var-spec =

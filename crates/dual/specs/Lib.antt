@@ -1,0 +1,4 @@
+-- What dual fixing's contracts cite, and its laws.
+pub mod Flags
+pub mod Barring
+pub mod Fixing

@@ -1,0 +1,28 @@
+// A row's fate as a number: 0 trivially true, 1 dropped and kept for validation, 2 emitted as written,
+// 3 emitted rewritten and kept.
+ghost use mathlib.Core.Path.{_≡_};
+ghost use Rattle.emit.specs.Fates as fates;
+
+// Whether a row of this fate is kept for validation.
+pub fn is_kept(fate: usize) -> bool
+    ensures { λ z. ⌜ z ≡ fates.isKept fate ⌝ }
+{
+    if fate == 1 {
+        return true;
+    }
+    fate > 2
+}
+
+// Whether it is emitted.
+pub fn is_out(fate: usize) -> bool
+    ensures { λ z. ⌜ z ≡ fates.isOut fate ⌝ }
+{
+    fate > 1
+}
+
+// Whether it is emitted rewritten.
+pub fn is_rewritten(fate: usize) -> bool
+    ensures { λ z. ⌜ z ≡ fates.isRewritten fate ⌝ }
+{
+    fate > 2
+}

@@ -1,0 +1,14 @@
+// The end of presolve: rows are folded a last time, and what is left is written to the result slices.
+mod bounds;
+mod entries;
+mod fates;
+mod kept;
+mod parts;
+
+pub use bounds::bounds_changed;
+pub use bounds::write_bounds;
+pub use entries::write_emitted;
+pub use entries::write_rhs;
+pub use kept::write_kept;
+pub use parts::row_coeffs;
+pub use parts::row_vars;

@@ -1,0 +1,66 @@
+// The terms of an emitted row: a part of the model's slices, or of the rewritten ones.
+ghost use mathlib.Core.Path.{_≡_};
+ghost use mathlib.Core.Bool.{Bool};
+ghost use lib.Seq.{slice};
+ghost use Rattle.floats.specs.Num.{choose};
+ghost use Rattle.emit.specs.Parts.{Least};
+
+// The smaller of two numbers.
+fn least(a: usize, b: usize) -> usize
+    ensures { λ z. ⌜ Least a b z ⌝ }
+{
+    if a < b {
+        return a;
+    }
+    b
+}
+
+// The numbers at from up to upto, as far as there are any.
+fn vars_at<'a>(l: &'a [usize], from: usize, upto: usize) -> &'a [usize]
+    ensures { λ z. ⌜ now z ≡ slice from upto (now (l .entry)) ⌝ }
+{
+    let e = least(upto, l.len());
+    let a = least(from, e);
+    &l[a..e]
+}
+
+// The floats at from up to upto, as far as there are any.
+fn coeffs_at<'a>(l: &'a [f64], from: usize, upto: usize) -> &'a [f64]
+    ensures { λ z. ⌜ now z ≡ slice from upto (now (l .entry)) ⌝ }
+{
+    let e = least(upto, l.len());
+    let a = least(from, e);
+    &l[a..e]
+}
+
+// The variables of an emitted row's terms, by its mark and its span.
+pub fn row_vars<'a>(
+    index: &'a [usize],
+    rewritten_index: &'a [usize],
+    rewritten: bool,
+    from: usize,
+    upto: usize,
+) -> &'a [usize]
+    ensures { λ z. ⌜ now z ≡ slice from upto (choose rewritten (now («rewritten_index» .entry)) (now (index .entry))) ⌝ }
+{
+    if rewritten {
+        return vars_at(rewritten_index, from, upto);
+    }
+    vars_at(index, from, upto)
+}
+
+// Their coefficients.
+pub fn row_coeffs<'a>(
+    coeff: &'a [f64],
+    rewritten_coeff: &'a [f64],
+    rewritten: bool,
+    from: usize,
+    upto: usize,
+) -> &'a [f64]
+    ensures { λ z. ⌜ now z ≡ slice from upto (choose rewritten (now («rewritten_coeff» .entry)) (now (coeff .entry))) ⌝ }
+{
+    if rewritten {
+        return coeffs_at(rewritten_coeff, from, upto);
+    }
+    coeffs_at(coeff, from, upto)
+}
