@@ -33,15 +33,9 @@ const WILD: [f64; 16] = [
     0.0, -0.0, 1.0, -1.0, 0.1, 1e-300, -1e-300, 5e-324, 1e300, -1e300, 1.7e308, -1.7e308, 1e-9, 3e15, 9007199254740993.0, 0.3333333333333333,
 ];
 
-// A model of the family with at most so many variables and rows.
-pub fn model(rng: &mut Rng, family: usize, max_vars: usize, max_rows: usize) -> Model {
-    let name = FAMILIES[family];
-    if name.starts_with("big-m") {
-        return big_m(rng, name == "big-m wild", max_vars, max_rows);
-    }
-    let n = 1 + rng.below(max_vars);
-    let rows = if name == "chain" { n.saturating_sub(1) } else { rng.below(max_rows + 1) };
-    let mut m = Model {
+// No variables and no rows yet.
+fn empty(mode: u8, feas: f64, int_tol: f64) -> Model {
+    Model {
         obj: vec![],
         lower: vec![],
         upper: vec![],
@@ -51,14 +45,28 @@ pub fn model(rng: &mut Rng, family: usize, max_vars: usize, max_rows: usize) -> 
         coeff: vec![],
         cmp: vec![],
         rhs: vec![],
-        mode: match name {
-            "lp" => 0,
-            "dual" => 2,
-            _ => [1, 1, 1, 2, 0][rng.below(5)],
-        },
-        feas: [1e-6, 1e-6, 0.01, 0.0, 0.5, 1e-9][rng.below(6)],
-        int_tol: [1e-9, 1e-9, 0.01, 0.0, 0.5][rng.below(5)],
+        mode,
+        feas,
+        int_tol,
+    }
+}
+
+// A model of the family with at most so many variables and rows.
+pub fn model(rng: &mut Rng, family: usize, max_vars: usize, max_rows: usize) -> Model {
+    let name = FAMILIES[family];
+    if name.starts_with("big-m") {
+        return big_m(rng, name == "big-m wild", max_vars, max_rows);
+    }
+    let n = 1 + rng.below(max_vars);
+    let rows = if name == "chain" { n.saturating_sub(1) } else { rng.below(max_rows + 1) };
+    let mode = match name {
+        "lp" => 0,
+        "dual" => 2,
+        _ => [1, 1, 1, 2, 0][rng.below(5)],
     };
+    let feas = [1e-6, 1e-6, 0.01, 0.0, 0.5, 1e-9][rng.below(6)];
+    let int_tol = [1e-9, 1e-9, 0.01, 0.0, 0.5][rng.below(5)];
+    let mut m = empty(mode, feas, int_tol);
     for _ in 0..n {
         let d = match name {
             "whole" | "dual" | "chain" => [0, 2][rng.below(2)],
@@ -141,20 +149,9 @@ pub fn model(rng: &mut Rng, family: usize, max_vars: usize, max_rows: usize) -> 
 // Rows that coefficient tightening rewrites: the rest of the row stays below its bound by part of a binary's coefficient.
 fn big_m(rng: &mut Rng, wild: bool, max_vars: usize, max_rows: usize) -> Model {
     let n = 2 + rng.below(max_vars.saturating_sub(1));
-    let mut m = Model {
-        obj: vec![],
-        lower: vec![],
-        upper: vec![],
-        domain: vec![],
-        starts: vec![0],
-        index: vec![],
-        coeff: vec![],
-        cmp: vec![],
-        rhs: vec![],
-        mode: 1 + (rng.chance(20) as u8),
-        feas: [1e-6, 1e-6, 1e-9, 0.0][rng.below(4)],
-        int_tol: 1e-9,
-    };
+    let mode = 1 + (rng.chance(20) as u8);
+    let feas = [1e-6, 1e-6, 1e-9, 0.0][rng.below(4)];
+    let mut m = empty(mode, feas, 1e-9);
     for v in 0..n {
         let binary = v % 2 == 0;
         m.domain.push(if binary { 2 } else { [0, 1][rng.below(2)] });

@@ -3,7 +3,10 @@
 mod bounds;
 mod marks;
 
+pub use bounds::emit_bounds;
 pub use bounds::fix;
 pub use bounds::fix_beside;
+pub use bounds::tighten_lower;
+pub use bounds::tighten_upper;
 pub use marks::mark_row;
 pub use marks::mark_var;

@@ -1,0 +1,3 @@
+-- Forcing rows on the slices.
+pub mod Forced
+pub mod Fixing

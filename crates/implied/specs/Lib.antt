@@ -1,0 +1,3 @@
+-- Implied bounds on the slices.
+pub mod Sides
+pub mod Loop

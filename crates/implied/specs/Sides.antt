@@ -1,0 +1,198 @@
+-- The implied bounds of one term, by the ways through the code; and that they keep the invariant and change no row.
+use Prim.Native.Nat.{ℕ, _+_, _-_}
+use mathlib.Core.Path.{_≡_, refl, ap, sym, _∙_}
+use mathlib.Core.Bool.{Bool, true, false}
+use mathlib.Core.List.{List}
+use mathlib.Core.Option.{Option, none, some}
+use lib.ListN.{getD}
+use lib.Ieee.{Float, nan}
+use Rattle.floats.specs.Num.{choose, isFinite}
+use Rattle.tolerances.specs.Tol.{Term, term, at}
+use Rattle.definition.specs.declared.Activity.{Activity}
+use Rattle.definition.specs.Model.{Model, Row, rangeMin, rangeMax}
+use Rattle.definition.specs.Work.{Work, Step, stop, next, _>>=_}
+use Rattle.definition.specs.Bounds.{tightenUpper, tightenLower}
+use Rattle.definition.specs.Implied.{restOf, implied, impliedTerm}
+use Rattle.space.specs.declared.Shape.{Shape}
+use Rattle.space.specs.declared.Step as code
+use Rattle.space.specs.declared.Step.the-variants.{Stop, Next}
+use Rattle.space.specs.Store.{Floats, Numbers}
+use Rattle.formulas.specs.declared.Limits.{Limits}
+use Rattle.formulas.specs.declared.Side.{Side}
+use Rattle.formulas.specs.declared.Rest.{Rest}
+use Rattle.formulas.specs.declared.Rest.the-variants.{Sum, Unbounded}
+use Rattle.formulas.specs.Bare.{bare, Has, Says}
+use Rattle.formulas.specs.Implied.{restIs, hiOf, loOf, hi-of-of, lo-of-of, boundsAbove, quotientOf, relaxOf, relaxation-of, implied-of}
+use Rattle.view.specs.Shows.{Shows}
+use Rattle.view.specs.Inv.{Inv}
+use Rattle.view.specs.Lists.{yes, no, either}
+use Rattle.view.specs.Acts.{Tries}
+use Rattle.view.specs.Steps.{InvStep, stops, goes, KeepsStep, tries-under, tries-then, tries-stop}
+use Rattle.view.specs.Known.{Bounding}
+use Rattle.view.specs.Bounds.{wlo-is, whi-is, went-by}
+use Rattle.bounds.specs.Moves.{inv-upper, inv-lower}
+use Rattle.rows.specs.Knowing.{Moves, moves-bounding, moves-spans, of-call}
+use Rattle.rows.specs.Same.{Same, halts, same, same-then, upper-same, lower-same}
+use Rattle.rows.specs.Steps.{tries-as, inv-then}
+
+-- `implied`, at a side
+unfoldable pub fromRest : Model → Bool → ℕ → Row → Side → Float → Term → Option Float → Work → Step
+fromRest M upper r row side c t rest w = implied M upper r row (side .bound) (side .abs) (side .slack) c t rest w
+
+-- a half of `impliedTerm`
+unfoldable pub sideStep : Model → Bool → ℕ → Row → Side → Float → Term → Work → Step
+sideStep M upper r row side c t w = choose (isFinite (side .bound)) (fromRest M upper r row side c t (restOf (side .sum) (side .ninf) c) w) (next w)
+
+rest-none : (M : Model) (upper : Bool) (r : ℕ) (row : Row) (side : Side) (c : Float) (t : Term) (w : Work) → fromRest M upper r row side c t none w ≡ next w
+unfolding fromRest implied
+rest-none M upper r row side c t w = refl
+
+rest-some : (M : Model) (upper : Bool) (r : ℕ) (row : Row) (side : Side) (c : Float) (t : Term) (rest : Float) (w : Work) → fromRest M upper r row side c t (some rest) w
+    ≡ choose (boundsAbove upper (t .coeff))
+    (tightenUpper M (t .var) (quotientOf (side .bound) rest (t .coeff)) (relaxOf M r row side c rest (t .coeff)) w)
+    (tightenLower M (t .var) (quotientOf (side .bound) rest (t .coeff)) (relaxOf M r row side c rest (t .coeff)) w)
+unfolding fromRest
+rest-some M upper r row side c t rest w = implied-of M upper r row side c t rest w
+
+-- ---- the row's four floats are enough
+module _ {x : Limits} {row : Row} (M : Model) (r : ℕ) (h : Has x row) where
+  rest-has : (upper : Bool) (side : Side) (c : Float) (t : Term) (rest : Option Float) (w : Work) → fromRest M upper r (bare x) side c t rest w ≡ fromRest M upper r row side c t rest w
+  rest-has upper side c t none w = rest-none M upper r (bare x) side c t w ∙ sym (rest-none M upper r row side c t w)
+  rest-has upper side c t (some rest) w =
+      let q = quotientOf (side .bound) rest (t .coeff) in
+      rest-some M upper r (bare x) side c t rest w
+      ∙ ap (λ (y : Float). choose (boundsAbove upper (t .coeff)) (tightenUpper M (t .var) q y w) (tightenLower M (t .var) q y w)) (relaxation-of M r side c rest (t .coeff) h)
+      ∙ sym (rest-some M upper r row side c t rest w)
+
+  side-has : (upper : Bool) (side : Side) (c : Float) (t : Term) (w : Work) → sideStep M upper r (bare x) side c t w ≡ sideStep M upper r row side c t w
+  unfolding sideStep
+  side-has upper side c t w = ap (λ (y : Step). choose (isFinite (side .bound)) y (next w)) (rest-has upper side c t (restOf (side .sum) (side .ninf) c) w)
+
+-- both halves
+both : Model → ℕ → Row → Side → Side → Float → Float → Term → Work → Step
+both M r row above below cmin cmax t w = sideStep M true r row above cmin t w >>= λ w1. sideStep M false r row below cmax t w1
+
+term-of : (M : Model) (r : ℕ) (row : Row) (act : Activity) (t : Term) (w : Work) → impliedTerm M r row act t w
+    ≡ both M r row (hiOf row act) (loOf row act) (rangeMin (t .coeff) (at (w .wlo) (t .var)) (at (w .whi) (t .var))) (rangeMax (t .coeff) (at (w .wlo) (t .var)) (at (w .whi) (t .var))) t w
+unfolding impliedTerm both sideStep fromRest
+term-of M r row act t w = refl
+
+then-has : {x : Limits} {row : Row} (M : Model) (r : ℕ) → Has x row → (side : Side) (c : Float) (t : Term) (z : Step) → (z >>= λ w1. sideStep M false r (bare x) side c t w1) ≡ (z >>= λ w1. sideStep M false r row side c t w1)
+then-has M r h side c t (stop k) = refl
+then-has M r h side c t (next w) = side-has M r h false side c t w
+
+both-has : {x : Limits} {row : Row} (M : Model) (r : ℕ) → Has x row → (above below : Side) (cmin cmax : Float) (t : Term) (w : Work) → both M r (bare x) above below cmin cmax t w ≡ both M r row above below cmin cmax t w
+unfolding both
+both-has {x} {row} M r h above below cmin cmax t w =
+    then-has M r h below cmax t (sideStep M true r (bare x) above cmin t w) ∙ ap (λ (y : Step). y >>= λ w1. sideStep M false r row below cmax t w1) (side-has M r h true above cmin t w)
+
+pub term-has : {x : Limits} {row : Row} (M : Model) (r : ℕ) → Has x row → (act : Activity) (t : Term) (w : Work) → impliedTerm M r (bare x) act t w ≡ impliedTerm M r row act t w
+term-has {x} {row} M r h act t w =
+    let lo = at (w .wlo) (t .var) in
+    let hi = at (w .whi) (t .var) in
+    let cmin = rangeMin (t .coeff) lo hi in
+    let cmax = rangeMax (t .coeff) lo hi in
+    term-of M r (bare x) act t w
+    ∙ both-has M r h (hiOf (bare x) act) (loOf (bare x) act) cmin cmax t w
+    ∙ ap (λ (y : Side). both M r row y (loOf (bare x) act) cmin cmax t w) (hi-of-of act h)
+    ∙ ap (λ (y : Side). both M r row (hiOf row act) y cmin cmax t w) (lo-of-of act h)
+    ∙ sym (term-of M r row act t w)
+
+-- ---- the invariant is kept, and no row changes
+module _ {M : Model} {k : ℕ} (upper : Bool) (r : ℕ) (row : Row) (side : Side) (c : Float) (t : Term) (w : Work) where
+  inv-rest : (rest : Option Float) → Inv M k w → InvStep M k (fromRest M upper r row side c t rest w)
+  unfolding fromRest implied
+  inv-rest none i = goes i
+  inv-rest (some rest) i = either (InvStep M k) _ (λ e. inv-upper (t .var) w i _ _) (λ e. inv-lower (t .var) w i _ _)
+
+  inv-side : Inv M k w → InvStep M k (sideStep M upper r row side c t w)
+  unfolding sideStep
+  inv-side i = either (InvStep M k) _ (λ e. inv-rest (restOf (side .sum) (side .ninf) c) i) (λ e. goes i)
+
+module _ (M : Model) (upper : Bool) (r : ℕ) (row : Row) (side : Side) (c : Float) (t : Term) (w : Work) where
+  same-rest : (rest : Option Float) → Same w (fromRest M upper r row side c t rest w)
+  unfolding fromRest implied
+  same-rest none = same refl
+  same-rest (some rest) = either (Same w) _ (λ e. upper-same M (t .var) w _ _) (λ e. lower-same M (t .var) w _ _)
+
+  same-side : Same w (sideStep M upper r row side c t w)
+  unfolding sideStep
+  same-side = either (Same w) _ (λ e. same-rest (restOf (side .sum) (side .ninf) c)) (λ e. same refl)
+
+pub side-keeps : {P : Model → Type 0} {s : Shape} (upper : Bool) (r : ℕ) (row : Row) (side : Side) (c : Float) (t : Term) → KeepsStep P s (λ M. sideStep M upper r row side c t)
+side-keeps upper r row side c t = record { keeps = λ M k w p q i. inv-side upper r row side c t w i }
+
+pub inv-term : {M : Model} {k : ℕ} (r : ℕ) (row : Row) (act : Activity) (t : Term) (w : Work) → Inv M k w → InvStep M k (impliedTerm M r row act t w)
+unfolding both
+inv-term {M} {k} r row act t w i =
+    rw (term-of M r row act t w) (inv-then (λ w1. sideStep M false r row (loOf row act) _ t w1) (inv-side true r row (hiOf row act) _ t w i) (λ u j. inv-side false r row (loOf row act) _ t u j))
+
+pub same-term : (M : Model) (r : ℕ) (row : Row) (act : Activity) (t : Term) (w : Work) → Same w (impliedTerm M r row act t w)
+unfolding both
+same-term M r row act t w =
+    rw (term-of M r row act t w) (same-then (λ w1. sideStep M false r row (loOf row act) _ t w1) (same-side M true r row (hiOf row act) _ t w) (λ u. same-side M false r row (loOf row act) _ t u))
+
+-- ---- implied_rest: by the side's direction
+module _ {ds ss js : List ℕ} {s : Shape} {f f′ : Floats} {n n′ : Numbers} {z : code.Step} (upper : Bool) (r : ℕ) (x : Limits) (side : Side) (c : Float) (v : ℕ) (a rest : Float)
+    {q relax : Float} {l : ℕ} {b : Bool} (eq : q ≡ quotientOf (side .bound) rest a) (el : l ≡ getD ss (r + 1) 0 - getD ss r 0) (er : Says (s .feas) l relax (λ M r′. relaxOf M r′ (bare x) side c rest a)) (eb : b ≡ boundsAbove upper a) where
+  pub rest-upper : b ≡ true → Tries (Bounding ds js) s f n f′ n′ z (λ M. tightenUpper M v q relax) → Tries (Moves ds ss js) s f n f′ n′ z (λ M. fromRest M upper r (bare x) side c (term v a) (some rest))
+  rest-upper y t =
+      tries-as
+      (λ M o k w p d h i.
+      rest-some M upper r (bare x) side c (term v a) rest w ∙ yes _ _ (sym eb ∙ y)
+      ∙ ap (λ (u : Float). tightenUpper M v u (relaxOf M r (bare x) side c rest a) w) (sym eq)
+      ∙ ap (λ (u : Float). tightenUpper M v q u w) (sym (er .of M r (of-call d (moves-spans M p) el))))
+      (tries-under moves-bounding t)
+
+  pub rest-lower : b ≡ false → Tries (Bounding ds js) s f n f′ n′ z (λ M. tightenLower M v q relax) → Tries (Moves ds ss js) s f n f′ n′ z (λ M. fromRest M upper r (bare x) side c (term v a) (some rest))
+  rest-lower y t =
+      tries-as
+      (λ M o k w p d h i.
+      rest-some M upper r (bare x) side c (term v a) rest w ∙ no _ _ (sym eb ∙ y)
+      ∙ ap (λ (u : Float). tightenLower M v u (relaxOf M r (bare x) side c rest a) w) (sym eq)
+      ∙ ap (λ (u : Float). tightenLower M v q u w) (sym (er .of M r (of-call d (moves-spans M p) el))))
+      (tries-under moves-bounding t)
+
+-- ---- implied_side
+side-is : (M : Model) (upper : Bool) (r : ℕ) (row : Row) (side : Side) (c : Float) (t : Term) (z : Rest) (w : Work) → isFinite (side .bound) ≡ true → restIs z ≡ restOf (side .sum) (side .ninf) c
+    → sideStep M upper r row side c t w ≡ fromRest M upper r row side c t (restIs z) w
+unfolding sideStep
+side-is M upper r row side c t z w e g = yes _ _ e ∙ ap (λ (y : Option Float). fromRest M upper r row side c t y w) (sym g)
+
+module _ {P : Model → Type 0} {s : Shape} {f : Floats} {n : Numbers} (upper : Bool) (r : ℕ) (row : Row) (side : Side) (c : Float) (t : Term) where
+  pub side-skip : isFinite (side .bound) ≡ false → Tries P s f n f n Next (λ M. sideStep M upper r row side c t)
+  unfolding sideStep
+  side-skip e = record { does = λ M o k w p d h i. went-by (no _ _ e) h }
+
+  module _ {z : Rest} (e : isFinite (side .bound) ≡ true) (g : restIs z ≡ restOf (side .sum) (side .ninf) c) where
+    pub side-open : z ≡ Unbounded → Tries P s f n f n Next (λ M. sideStep M upper r row side c t)
+    side-open u =
+        record { does = λ M o k w p d h i. went-by (side-is M upper r row side c t z w e g ∙ ap (λ (y : Rest). fromRest M upper r row side c t (restIs y) w) u ∙ rest-none M upper r row side c t w) h }
+
+    pub side-sum : {f′ : Floats} {n′ : Numbers} {y : code.Step} {rest : Float} → z ≡ Sum rest → Tries P s f n f′ n′ y (λ M. fromRest M upper r row side c t (some rest)) → Tries P s f n f′ n′ y (λ M. sideStep M upper r row side c t)
+    side-sum u k = tries-as (λ M o j w p d h i. side-is M upper r row side c t z w e g ∙ ap (λ (y : Rest). fromRest M upper r row side c t (restIs y) w) u) k
+
+-- ---- implied_term
+module _ {f : Floats} (r : ℕ) (x : Limits) (act : Activity) (v : ℕ) (a : Float) {lo hi cmin cmax : Float} {above below : Side} (e₁ : lo ≡ getD (f .wlo) v nan) (e₂ : hi ≡ getD (f .whi) v nan)
+    (e₃ : cmin ≡ rangeMin a lo hi) (e₄ : cmax ≡ rangeMax a lo hi) (e₅ : above ≡ hiOf (bare x) act) (e₆ : below ≡ loOf (bare x) act) where
+  term-is : {M : Model} {n : Numbers} {o : List ℕ} {w : Work} → Shows M f n o w → impliedTerm M r (bare x) act (term v a) w ≡ both M r (bare x) above below cmin cmax (term v a) w
+  term-is {M} {n} {o} {w} h =
+      let b₁ : rangeMin a (at (w .wlo) v) (at (w .whi) v) ≡ cmin = cc (wlo-is v h e₁, whi-is v h e₂, e₃) in
+      let b₂ : rangeMax a (at (w .wlo) v) (at (w .whi) v) ≡ cmax = cc (wlo-is v h e₁, whi-is v h e₂, e₄) in
+      term-of M r (bare x) act (term v a) w
+      ∙ ap (λ (y : Float). both M r (bare x) (hiOf (bare x) act) (loOf (bare x) act) y (rangeMax a (at (w .wlo) v) (at (w .whi) v)) (term v a) w) b₁
+      ∙ ap (λ (y : Float). both M r (bare x) (hiOf (bare x) act) (loOf (bare x) act) cmin y (term v a) w) b₂
+      ∙ ap (λ (y : Side). both M r (bare x) y (loOf (bare x) act) cmin cmax (term v a) w) (sym e₅)
+      ∙ ap (λ (y : Side). both M r (bare x) above y cmin cmax (term v a) w) (sym e₆)
+
+module _ {P : Model → Type 0} {s : Shape} {f : Floats} {n : Numbers} (r : ℕ) (x : Limits) (act : Activity) (v : ℕ) (a : Float) {lo hi cmin cmax : Float} {above below : Side} (e₁ : lo ≡ getD (f .wlo) v nan) (e₂ : hi ≡ getD (f .whi) v nan)
+    (e₃ : cmin ≡ rangeMin a lo hi) (e₄ : cmax ≡ rangeMax a lo hi) (e₅ : above ≡ hiOf (bare x) act) (e₆ : below ≡ loOf (bare x) act) where
+  module _ {f₁ : Floats} {n₁ : Numbers} where
+    pub term-stop : Tries P s f n f₁ n₁ Stop (λ M. sideStep M true r (bare x) above cmin (term v a)) → Tries P s f n f₁ n₁ Stop (λ M. impliedTerm M r (bare x) act (term v a))
+    unfolding both
+    term-stop t = tries-as (λ M o k w p d h i. term-is r x act v a e₁ e₂ e₃ e₄ e₅ e₆ h) (tries-stop (λ M. sideStep M false r (bare x) below cmax (term v a)) t)
+
+    pub term-both : {f₂ : Floats} {n₂ : Numbers} {z : code.Step} → Tries P s f n f₁ n₁ Next (λ M. sideStep M true r (bare x) above cmin (term v a)) → Tries P s f₁ n₁ f₂ n₂ z (λ M. sideStep M false r (bare x) below cmax (term v a))
+        → Tries P s f n f₂ n₂ z (λ M. impliedTerm M r (bare x) act (term v a))
+    unfolding both
+    term-both t u = tries-as (λ M o k w p d h i. term-is r x act v a e₁ e₂ e₃ e₄ e₅ e₆ h) (tries-then t (side-keeps true r (bare x) above cmin (term v a)) u)

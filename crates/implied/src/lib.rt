@@ -1,0 +1,161 @@
+// `primal_wave` of src/presolve/work.rs, changed: the implied bounds of each term of a row, from each
+// side of it.
+ghost use Prim.Native.Nat.{_<_};
+ghost use mathlib.Core.Bool.{true, false};
+ghost use mathlib.Core.Option.{some};
+ghost use Rattle.tolerances.specs.Tol.{term};
+ghost use Rattle.definition.specs.Implied as definition;
+ghost use Rattle.space.specs.Store.{floatsOf, numbersOf, HoldsF, HoldsN};
+ghost use Rattle.formulas.specs.Bare.{bare};
+ghost use Rattle.view.specs.Acts.{Ready, Tries};
+ghost use Rattle.readers.specs.Reading.{rowOf, Alive};
+ghost use Rattle.rows.specs.Knowing.{Moves};
+ghost use Rattle.implied.specs.Sides.{fromRest, sideStep};
+use definition::Activity;
+use formulas::Limits;
+use formulas::Rest;
+use formulas::Side;
+use space::Shape;
+use space::Step;
+
+// = implied, where the rest of the row has a sum
+fn implied_rest(
+    domain: &[u8],
+    starts: &[usize],
+    adj: &[usize],
+    w: &mut [f64],
+    m: &mut [usize],
+    s: Shape,
+    r: usize,
+    x: Limits,
+    side: Side,
+    upper: bool,
+    c: f64,
+    v: usize,
+    a: f64,
+    rest: f64,
+) -> Step
+    requires { ⌜ (r < s .rows) × (v < s .vars) × HoldsF s (now w) × HoldsN s (now m) ⌝ }
+    requires { ⌜ Ready (Moves (now domain) (now starts) (now adj)) s (floatsOf s (now w)) (numbersOf s (now m)) ⌝ }
+    ensures { λ z. ⌜ Tries (Moves (now (domain .entry)) (now (starts .entry)) (now (adj .entry))) s (floatsOf s (now (w .entry))) (numbersOf s (now (m .entry))) (floatsOf s (now (w .exit))) (numbersOf s (now (m .exit))) z (λ M. fromRest M upper r (bare x) side c (term v a) (some rest)) ⌝ }
+{
+    let q = formulas::quotient(side, rest, a);
+    let n = rows::written_terms(starts, r);
+    let relax = formulas::relaxation(s.feas, n, x, side, c, rest, a);
+    if formulas::bounds_above(upper, a) {
+        return bounds::tighten_upper(domain, adj, w, m, s, v, q, relax);
+    }
+    bounds::tighten_lower(domain, adj, w, m, s, v, q, relax)
+}
+
+// = a half of impliedTerm: implied, where the side is finite
+fn implied_side(
+    domain: &[u8],
+    starts: &[usize],
+    adj: &[usize],
+    w: &mut [f64],
+    m: &mut [usize],
+    s: Shape,
+    r: usize,
+    x: Limits,
+    side: Side,
+    upper: bool,
+    c: f64,
+    v: usize,
+    a: f64,
+) -> Step
+    requires { ⌜ (r < s .rows) × (v < s .vars) × HoldsF s (now w) × HoldsN s (now m) ⌝ }
+    requires { ⌜ Ready (Moves (now domain) (now starts) (now adj)) s (floatsOf s (now w)) (numbersOf s (now m)) ⌝ }
+    ensures { λ z. ⌜ Tries (Moves (now (domain .entry)) (now (starts .entry)) (now (adj .entry))) s (floatsOf s (now (w .entry))) (numbersOf s (now (m .entry))) (floatsOf s (now (w .exit))) (numbersOf s (now (m .exit))) z (λ M. sideStep M upper r (bare x) side c (term v a)) ⌝ }
+{
+    if floats::is_finite(side.bound) {
+        match formulas::rest_of(side, c) {
+            Rest::Sum(rest) => {
+                return implied_rest(
+                    domain,
+                    starts,
+                    adj,
+                    w,
+                    m,
+                    s,
+                    r,
+                    x,
+                    side,
+                    upper,
+                    c,
+                    v,
+                    a,
+                    rest,
+                );
+            }
+            Rest::Unbounded => {
+                return Step::Next;
+            }
+        }
+    }
+    Step::Next
+}
+
+// = impliedTerm: both parts of the term are taken before either side
+fn implied_term(
+    domain: &[u8],
+    starts: &[usize],
+    adj: &[usize],
+    w: &mut [f64],
+    m: &mut [usize],
+    s: Shape,
+    r: usize,
+    x: Limits,
+    act: Activity,
+    v: usize,
+    a: f64,
+) -> Step
+    requires { ⌜ (r < s .rows) × (v < s .vars) × HoldsF s (now w) × HoldsN s (now m) ⌝ }
+    requires { ⌜ Ready (Moves (now domain) (now starts) (now adj)) s (floatsOf s (now w)) (numbersOf s (now m)) ⌝ }
+    ensures { λ z. ⌜ Tries (Moves (now (domain .entry)) (now (starts .entry)) (now (adj .entry))) s (floatsOf s (now (w .entry))) (numbersOf s (now (m .entry))) (floatsOf s (now (w .exit))) (numbersOf s (now (m .exit))) z (λ M. definition.impliedTerm M r (bare x) act (term v a)) ⌝ }
+{
+    let lo = space::get_wlo(w, s, v);
+    let hi = space::get_whi(w, s, v);
+    let cmin = formulas::range_min(a, lo, hi);
+    let cmax = formulas::range_max(a, lo, hi);
+    let above = formulas::hi_of(x, act);
+    let below = formulas::lo_of(x, act);
+    match implied_side(domain, starts, adj, w, m, s, r, x, above, true, cmin, v, a) {
+        Step::Stop => Step::Stop,
+        Step::Next => implied_side(domain, starts, adj, w, m, s, r, x, below, false, cmax, v, a),
+    }
+}
+
+// = impliedBounds, of the row that stands in the state
+pub fn implied_bounds(
+    domain: &[u8],
+    starts: &[usize],
+    adj: &[usize],
+    w: &mut [f64],
+    m: &mut [usize],
+    s: Shape,
+    r: usize,
+    act: Activity,
+) -> Step
+    requires { ⌜ (r < s .rows) × HoldsF s (now w) × HoldsN s (now m) × Alive (numbersOf s (now m)) r ⌝ }
+    requires { ⌜ Ready (Moves (now domain) (now starts) (now adj)) s (floatsOf s (now w)) (numbersOf s (now m)) ⌝ }
+    ensures { λ z. ⌜ Tries (Moves (now (domain .entry)) (now (starts .entry)) (now (adj .entry))) s (floatsOf s (now (w .entry))) (numbersOf s (now (m .entry))) (floatsOf s (now (w .exit))) (numbersOf s (now (m .exit))) z (λ M w. definition.impliedBounds M r (rowOf w r) act (rowOf w r .terms) w) ⌝ }
+{
+    let x = readers::limits(w, s, r);
+    let a = starts[r];
+    let n = space::get_len(m, s, r);
+    let mut i: usize = 0;
+    while i < n {
+        let v = space::get_var(m, s, a + i);
+        let c = space::get_coeff(w, s, a + i);
+        match implied_term(domain, starts, adj, w, m, s, r, x, act, v, c) {
+            Step::Stop => {
+                return Step::Stop;
+            }
+            Step::Next => {
+                i += 1;
+            }
+        }
+    }
+    Step::Next
+}

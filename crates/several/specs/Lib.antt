@@ -1,0 +1,3 @@
+-- One row of a wave.
+pub mod Several
+pub mod ByCount

@@ -1,0 +1,110 @@
+// A row of two terms or more: infeasible, forcing, redundant, or else its implied bounds.
+ghost use Prim.Native.Nat.{_<_};
+ghost use mathlib.Core.Bool.{true, false};
+ghost use Rattle.definition.specs.Work.{dropRow};
+ghost use Rattle.definition.specs.Activities as activities;
+ghost use Rattle.definition.specs.Forcing.{fixAll};
+ghost use Rattle.definition.specs.Wave.{severalTerms};
+ghost use Rattle.space.specs.Store.{floatsOf, numbersOf, HoldsF, HoldsN};
+ghost use Rattle.view.specs.Acts.{Ready, Acts, Tries};
+ghost use Rattle.readers.specs.Reading.{rowOf, Alive};
+ghost use Rattle.rows.specs.Knowing.{Marks, Moves};
+ghost use Rattle.several.specs.Several.{leftover, decided};
+use definition::Activity;
+use space::Shape;
+use space::Step;
+
+// Each variable at its corner, and the row dropped.
+fn force_row(
+    starts: &[usize],
+    adj: &[usize],
+    w: &mut [f64],
+    m: &mut [usize],
+    s: Shape,
+    r: usize,
+    minCorner: bool,
+)
+    requires { ⌜ (r < s .rows) × HoldsF s (now w) × HoldsN s (now m) × Alive (numbersOf s (now m)) r ⌝ }
+    requires { ⌜ Ready (Marks (now starts) (now adj)) s (floatsOf s (now w)) (numbersOf s (now m)) ⌝ }
+    ensures { λ _. ⌜ Acts (Marks (now (starts .entry)) (now (adj .entry))) s (floatsOf s (now (w .entry))) (numbersOf s (now (m .entry))) (floatsOf s (now (w .exit))) (numbersOf s (now (m .exit))) (λ M u. dropRow r (rowOf u r) (fixAll M minCorner u (rowOf u r .terms) u)) ⌝ }
+{
+    forcing::fix_all(starts, adj, w, m, s, r, minCorner);
+    rows::drop_row(m, s, r);
+}
+
+// A row that forces nothing.
+fn unforced(
+    domain: &[u8],
+    starts: &[usize],
+    adj: &[usize],
+    w: &mut [f64],
+    m: &mut [usize],
+    s: Shape,
+    r: usize,
+    act: Activity,
+    e: Activity,
+) -> Step
+    requires { ⌜ (r < s .rows) × HoldsF s (now w) × HoldsN s (now m) × Alive (numbersOf s (now m)) r ⌝ }
+    requires { ⌜ Ready (Moves (now domain) (now starts) (now adj)) s (floatsOf s (now w)) (numbersOf s (now m)) ⌝ }
+    ensures { λ z. ⌜ Tries (Moves (now (domain .entry)) (now (starts .entry)) (now (adj .entry))) s (floatsOf s (now (w .entry))) (numbersOf s (now (m .entry))) (floatsOf s (now (w .exit))) (numbersOf s (now (m .exit))) z (λ M u. leftover M r (rowOf u r) act e u) ⌝ }
+{
+    let x = readers::limits(w, s, r);
+    if formulas::redundant(x, act, e) {
+        rows::drop_row(m, s, r);
+        return Step::Next;
+    }
+    implied::implied_bounds(domain, starts, adj, w, m, s, r, act)
+}
+
+// A row whose working activity lets it be forcing or redundant: the emitted one decides.
+fn several_emitted(
+    domain: &[u8],
+    starts: &[usize],
+    adj: &[usize],
+    w: &mut [f64],
+    m: &mut [usize],
+    s: Shape,
+    r: usize,
+    act: Activity,
+) -> Step
+    requires { ⌜ (r < s .rows) × HoldsF s (now w) × HoldsN s (now m) × Alive (numbersOf s (now m)) r ⌝ }
+    requires { ⌜ Ready (Moves (now domain) (now starts) (now adj)) s (floatsOf s (now w)) (numbersOf s (now m)) ⌝ }
+    ensures { λ z. ⌜ Tries (Moves (now (domain .entry)) (now (starts .entry)) (now (adj .entry))) s (floatsOf s (now (w .entry))) (numbersOf s (now (m .entry))) (floatsOf s (now (w .exit))) (numbersOf s (now (m .exit))) z (λ M u. decided M r (rowOf u r) act (activities.activity M u (rowOf u r) false) u) ⌝ }
+{
+    let e = readers::activity(starts, w, m, s, r, false);
+    if forcing::forces_min(domain, starts, w, m, s, r, act, e) {
+        force_row(starts, adj, w, m, s, r, true);
+        return Step::Next;
+    }
+    if forcing::forces_max(domain, starts, w, m, s, r, act, e) {
+        force_row(starts, adj, w, m, s, r, false);
+        return Step::Next;
+    }
+    unforced(domain, starts, adj, w, m, s, r, act, e)
+}
+
+// = severalTerms
+pub fn several_terms(
+    domain: &[u8],
+    starts: &[usize],
+    adj: &[usize],
+    w: &mut [f64],
+    m: &mut [usize],
+    s: Shape,
+    r: usize,
+) -> Step
+    requires { ⌜ (r < s .rows) × HoldsF s (now w) × HoldsN s (now m) × Alive (numbersOf s (now m)) r ⌝ }
+    requires { ⌜ Ready (Moves (now domain) (now starts) (now adj)) s (floatsOf s (now w)) (numbersOf s (now m)) ⌝ }
+    ensures { λ z. ⌜ Tries (Moves (now (domain .entry)) (now (starts .entry)) (now (adj .entry))) s (floatsOf s (now (w .entry))) (numbersOf s (now (m .entry))) (floatsOf s (now (w .exit))) (numbersOf s (now (m .exit))) z (λ M u. severalTerms M r (rowOf u r) u) ⌝ }
+{
+    let act = readers::activity(starts, w, m, s, r, true);
+    let x = readers::limits(w, s, r);
+    let n = rows::written_terms(starts, r);
+    if formulas::unreachable(s.feas, n, x, act) {
+        return Step::Stop;
+    }
+    if formulas::may_reduce(s.feas, n, x, act) {
+        return several_emitted(domain, starts, adj, w, m, s, r, act);
+    }
+    implied::implied_bounds(domain, starts, adj, w, m, s, r, act)
+}
