@@ -57,7 +57,6 @@ module _ (M : Model) (r : ℕ) where
   outBy (suc (suc zero)) b row o = emitWritten M r o
   outBy (suc (suc (suc c))) b row o = emitRewritten M r b (sortTerms (row .terms ++ row .folded)) o
 
-
   by-tests : (t a u f : Bool) (b : Float) (row : Row) (o : Out)
       → choose t o (choose a (choose u (choose f (emitRewritten M r b (sortTerms (row .terms ++ row .folded)) o) (emitWritten M r o)) (emitWritten M r o)) (keepRow r o))
       ≡ outBy (choose t 0 (choose a (choose u (choose f 3 2) 2) 1)) b row o

@@ -5,3 +5,8 @@ pub mod Fates
 pub mod Filling
 pub mod Same
 pub mod Parts
+pub mod Spans
+pub mod Slots
+pub mod Terms
+pub mod Shown
+pub mod Judging

@@ -4,6 +4,10 @@ mod entries;
 mod fates;
 mod kept;
 mod parts;
+mod slots;
+mod spans;
+mod terms;
+mod trivial;
 
 pub use bounds::bounds_changed;
 pub use bounds::write_bounds;
@@ -12,3 +16,6 @@ pub use entries::write_rhs;
 pub use kept::write_kept;
 pub use parts::row_coeffs;
 pub use parts::row_vars;
+pub use spans::write_spans;
+pub use terms::write_terms;
+pub use trivial::is_trivial;

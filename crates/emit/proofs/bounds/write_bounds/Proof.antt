@@ -1,7 +1,6 @@
 use Rattle.emit.specs.Filling.{Copied, copy-start, copy-kept, copy-turn, copy-end}
 use Prim.Native.Nat.{_-_, _≤_}
 use native.Mathlib.Omega.{arith}
-
 use Rattle.space.specs.Store.{floatsOf}
 use lib.Ieee.{nan}
 use Rattle.space.specs.Blocks.{elo-length, ehi-length}

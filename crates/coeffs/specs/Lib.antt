@@ -1,0 +1,3 @@
+-- What the coefficient step's contracts cite, and its laws.
+pub mod Over
+pub mod Bound
