@@ -18,7 +18,7 @@ use Rattle.definition.specs.Bindings.{sumCoeffs, bindingSum, boundWith, rewritt
 use Rattle.space.specs.declared.Shape.{Shape}
 use Rattle.space.specs.Store.{Floats, Numbers}
 use Rattle.view.specs.Call.{Call}
-use Rattle.view.specs.Shows.{isOne, Shows, Parts, partsOf, BindingIs, BindingShown, unbound, isBound}
+use Rattle.view.specs.Shows.{isOne, Shows}
 use Rattle.view.specs.Inv.{Inv}
 use Rattle.view.specs.Lists.{yes, no, one-is, one-not}
 use Rattle.view.specs.Acts.{Ready, Reads}
@@ -28,6 +28,7 @@ use Rattle.readers.specs.RowAt.{row-shown}
 use Rattle.readers.specs.WrittenCoeffs.{ReadsWritten}
 use Rattle.readers.specs.Binaries.{binary-written}
 use Rattle.folds.specs.Besides.{binariesOf}
+use Rattle.folds.specs.Relaxing.{bound-of, unbound-is}
 use Rattle.coeffs.specs.Over.{Over, over-start, over-turn, over-end}
 
 -- ---- sum_coeffs
@@ -108,19 +109,6 @@ module _ {ss is : List ℕ} {cs : List Float} {os : List ℕ} {bs : List Float} 
     bind-end lk = over-end p a W el (bind-nil r) lk
 
 -- ---- rewritten_bound
-none-of : {M : Model} {p : Parts} {r : ℕ} {b : Option Binding} → BindingShown M p r b → getD (p .binaries) r 0 ≡ 0 → b ≡ none
-none-of (unbound e) z = refl
-none-of (isBound h) z = absurd (omega (arith, h .count, h .some, z))
-
-record Some (M : Model) (p : Parts) (r : ℕ) (o : Option Binding) : Type 0 where
-  pub binding : Binding
-  pub is : o ≡ some binding
-  pub shown : BindingIs M p r binding
-
-some-of : {M : Model} {p : Parts} {r : ℕ} {o : Option Binding} → BindingShown M p r o → (getD (p .binaries) r 0 ≡ 0 → ⊥) → Some M p r o
-some-of (unbound e) ne = absurd (ne e)
-some-of (isBound {b} h) ne = record { binding = b; is = refl; shown = h }
-
 bound-plain : (M : Model) (w : Work) (r : ℕ) {b : Float} → rowOf w r .binding ≡ none → at (M .rhs) r ≡ b → rewrittenBound M (rowOf w r) r ≡ b
 unfolding rewrittenBound boundWith rhsOf
 bound-plain M w r e g = ap (boundWith M (rowOf w r) r) e ∙ g
@@ -140,7 +128,7 @@ code-not x e = one-not x e
 
 module _ {ss is : List ℕ} {cs : List Float} {os : List ℕ} {bs : List Float} {s : Shape} {f : Floats} {n : Numbers} (r : ℕ) (p : r < s .rows) (a : Alive n r) {l : ℕ} (el : l ≡ getD (n .binaries) r 0) where
   pub bound-none : l ≡ 0 → Reads (Written ss is cs os bs) s f n (getD bs r nan) (λ M w. rewrittenBound M (rowOf w r) r)
-  bound-none z = record { reads = λ M o j w q c h i. bound-plain M w r (none-of (row-shown c h p a .binding) (sym el ∙ z)) (ap (λ (y : List Float). getD y r nan) (q .rhs)) }
+  bound-none z = record { reads = λ M o j w q c h i. bound-plain M w r (unbound-is (row-shown c h p a .binding) (sym el ∙ z)) (ap (λ (y : List Float). getD y r nan) (q .rhs)) }
 
   -- by the side that the row's bound is on
   module _ (ne : l ≡ 0 → ⊥) {d : CDouble} {kept z : Float} (t : Reads (Written ss is cs os bs) s f n d (bindAll r (getD bs r nan))) (ek : kept ≡ getD (f .kept) r nan) where
@@ -148,7 +136,7 @@ module _ {ss is : List ℕ} {cs : List Float} {os : List ℕ} {bs : List Float} 
     bound-by up eu ez =
         record {
           reads = λ M o j w q c h i.
-              let y = some-of (row-shown c h p a .binding) (λ g. ne (el ∙ g)) in
+              let y = bound-of (row-shown c h p a .binding) (λ g. ne (el ∙ g)) in
               let b = y .binding in
               let bk : b .kept ≡ kept = sym (y .shown .kept) ∙ sym ek in
               let bb : bindingSum M (rowOf w r) r (double.from (at (M .rhs) r)) (b .binaries) ≡ d =

@@ -24,11 +24,7 @@ use Rattle.view.specs.Acts.{Ready}
 use Rattle.view.specs.Known.{Spans}
 use Rattle.readers.specs.Reading.{rowOf, Alive}
 use Rattle.readers.specs.RowAt.{RowAt, row-ready}
-use Rattle.dual.specs.Flags.{Flags, withBad, barred, flags-same, flags-then, flags-none}
-
-take-whole : {A : Type 0} (l : List A) → take (length l) l ≡ l
-take-whole [] = refl
-take-whole (x ∷ l) = ap (λ (t : List _). x ∷ t) (take-whole l)
+use Rattle.dual.specs.Flags.{take-whole, Flags, withBad, barred, flags-same, flags-then, flags-none}
 
 -- ---- a row's terms: the k terms from place a on
 unfoldable pub termsAt : List Float → List ℕ → ℕ → ℕ → List Term

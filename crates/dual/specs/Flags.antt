@@ -124,9 +124,9 @@ clear-one l v p e =
     rw add-one
     (ap (map isOne) (take-suc-set l v 0 p) ∙ map-snoc (take v l) 0 ∙ ap (λ (b : Bool). map isOne (take v l) ++ (b ∷ [])) zero-is ∙ ap (λ (t : List Bool). t ++ (false ∷ [])) e ∙ none-snoc v)
 
-take-whole : (l : List ℕ) → take (length l) l ≡ l
+pub take-whole : {A : Type 0} (l : List A) → take (length l) l ≡ l
 take-whole [] = refl
-take-whole (x ∷ l) = ap (λ (t : List ℕ). x ∷ t) (take-whole l)
+take-whole (x ∷ l) = ap (λ (t : List _). x ∷ t) (take-whole l)
 
 -- the flags of the variables below v are cleared
 pub record Clearing (s : Shape) (v : ℕ) (n₀ n : Numbers) : Type 0 where

@@ -27,7 +27,7 @@ use Rattle.view.specs.Bounds.{elo-is, ehi-is}
 use Rattle.bounds.specs.Moves.{inv-fix}
 use Rattle.readers.specs.Reading.{rowOf, Alive}
 use Rattle.readers.specs.RowAt.{row-inv}
-use Rattle.rows.specs.Same.{fix-rows, fix-elo, fix-ehi}
+use Rattle.rows.specs.Same.{Blind, rows-blind, fix-leaves, fix-elo, fix-ehi}
 use Rattle.rows.specs.Steps.{acts-as}
 use Rattle.rows.specs.Loop.{Turning, turning-start, term-still, len-is}
 
@@ -107,7 +107,7 @@ module _ (M : Model) (r : ℕ) (minCorner : Bool) (i v : ℕ) (y : Float) (w u :
   fixed-one : Fixing r minCorner (i + 1) M w (fix M v x u)
   fixed-one =
       record {
-        rows = fix-rows M v x u ∙ K .rows;
+        rows = fix-leaves rows-blind M v x u ∙ K .rows;
         los = λ j p q. ap (λ (l : List Float). getD l (getD ts j noTerm .var) nan) (fix-elo M v x u) ∙ getD-set-other (u .elo) v (getD ts j noTerm .var) x nan (other-var j p q) ∙ K .los j (omega arith) q;
         his = λ j p q. ap (λ (l : List Float). getD l (getD ts j noTerm .var) nan) (fix-ehi M v x u) ∙ getD-set-other (u .ehi) v (getD ts j noTerm .var) x nan (other-var j p q) ∙ K .his j (omega arith) q;
         rest =
@@ -155,7 +155,7 @@ inv-fix-all {M} minCorner w (t ∷ ts) u i = inv-fix-all minCorner w ts (fix M (
 pub fix-all-keeps : {P : Model → Type 0} {s : Shape} (minCorner : Bool) (r : ℕ) → Keeps P s (λ M w. fixAll M minCorner w (rowOf w r .terms) w)
 fix-all-keeps minCorner r = record { keeps = λ M k w p c i. inv-fix-all minCorner w (rowOf w r .terms) w i }
 
-pub fix-all-rows : (M : Model) (minCorner : Bool) (w : Work) (ts : List Term) (u : Work) → fixAll M minCorner w ts u .rows ≡ u .rows
+pub fix-all-leaves : {A : Type 0} {g : Work → A} → Blind g → (M : Model) (minCorner : Bool) (w : Work) (ts : List Term) (u : Work) → g (fixAll M minCorner w ts u) ≡ g u
 unfolding fixAll
-fix-all-rows M minCorner w [] u = refl
-fix-all-rows M minCorner w (t ∷ ts) u = fix-all-rows M minCorner w ts (fix M (t .var) (corner minCorner w t) u) ∙ fix-rows M (t .var) (corner minCorner w t) u
+fix-all-leaves b M minCorner w [] u = refl
+fix-all-leaves b M minCorner w (t ∷ ts) u = fix-all-leaves b M minCorner w ts (fix M (t .var) (corner minCorner w t) u) ∙ fix-leaves b M (t .var) (corner minCorner w t) u

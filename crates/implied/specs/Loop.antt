@@ -25,10 +25,10 @@ use Rattle.view.specs.Known.{Spans}
 use Rattle.view.specs.Bounds.{went-by}
 use Rattle.readers.specs.Reading.{rowOf, Alive}
 use Rattle.readers.specs.Limits.{ReadsLimits}
-use Rattle.rows.specs.Same.{Same, same-next}
+use Rattle.rows.specs.Same.{Blind, rows-blind, Leaves, same, same-next, same-then}
 use Rattle.rows.specs.Steps.{stopped-then, inv-next, inv-then}
 use Rattle.rows.specs.Loop.{Turning, turning-start, turning-ready, term-still, len-is}
-use Rattle.implied.specs.Sides.{term-has, inv-term, same-term}
+use Rattle.implied.specs.Sides.{term-has, inv-term, leaves-term}
 
 bounds-cons : (M : Model) (r : ℕ) (row : Row) (act : Activity) (t : Term) (ts : List Term) (w : Work) → impliedBounds M r row act (t ∷ ts) w ≡ (impliedTerm M r row act t w >>= λ w1. impliedBounds M r row act ts w1)
 unfolding impliedBounds
@@ -46,6 +46,12 @@ inv-bounds {M} r row act (t ∷ ts) w i = inv-then (λ w1. impliedBounds M r row
 
 pub bounds-keeps : {P : Model → Type 0} {s : Shape} (r : ℕ) (act : Activity) → KeepsStep P s (λ M w. impliedBounds M r (rowOf w r) act (rowOf w r .terms) w)
 bounds-keeps r act = record { keeps = λ M k w p c i. inv-bounds r (rowOf w r) act (rowOf w r .terms) w i }
+
+-- ---- the rows and the count of waves are left
+pub leaves-bounds : {A : Type 0} {g : Work → A} → Blind g → (M : Model) (r : ℕ) (row : Row) (act : Activity) (ts : List Term) (w : Work) → Leaves g w (impliedBounds M r row act ts w)
+unfolding impliedBounds
+leaves-bounds b M r row act [] w = same refl
+leaves-bounds b M r row act (t ∷ ts) w = same-then (λ w1. impliedBounds M r row act ts w1) (leaves-term b M r row act t w) (λ u. leaves-bounds b M r row act ts u)
 
 -- ---- the walk: the terms from i on are left
 pub record Implying (r : ℕ) (act : Activity) (i : ℕ) (M : Model) (w u : Work) : Type 0 where
@@ -83,7 +89,7 @@ module _ {P : Model → Type 0} {s : Shape} {f₀ f : Floats} {n₀ n : Numbers}
                 inv = inv-next (inv-term r (bare x) act (term v y) (N .work) (N .inv)) (g .is);
                 holds =
                     record {
-                      rows = same-next (same-term M r (bare x) act (term v y) (N .work)) (g .is) ∙ N .holds .rows;
+                      rows = same-next (leaves-term rows-blind M r (bare x) act (term v y) (N .work)) (g .is) ∙ N .holds .rows;
                       rest =
                           ap (λ (d : ℕ). impliedBounds M r row act (drop d (row .terms)) (g .work)) (add-one i)
                           ∙ sym (left-is M r row act i (term v y) (N .work) (lim .has M n₀ o w c h a) m e ∙ ap (λ (z : Step). z >>= λ w1. impliedBounds M r row act (drop (suc i) (row .terms)) w1) (g .is))

@@ -32,7 +32,7 @@ use Rattle.view.specs.Known.{Bounding}
 use Rattle.view.specs.Bounds.{wlo-is, whi-is, went-by}
 use Rattle.bounds.specs.Moves.{inv-upper, inv-lower}
 use Rattle.rows.specs.Knowing.{Moves, moves-bounding, moves-spans, of-call}
-use Rattle.rows.specs.Same.{Same, halts, same, same-then, upper-same, lower-same}
+use Rattle.rows.specs.Same.{Blind, Leaves, halts, same, same-then, upper-leaves, lower-leaves}
 use Rattle.rows.specs.Steps.{tries-as, inv-then}
 
 -- `implied`, at a side
@@ -109,15 +109,15 @@ module _ {M : Model} {k : ℕ} (upper : Bool) (r : ℕ) (row : Row) (side : Side
   unfolding sideStep
   inv-side i = either (InvStep M k) _ (λ e. inv-rest (restOf (side .sum) (side .ninf) c) i) (λ e. goes i)
 
-module _ (M : Model) (upper : Bool) (r : ℕ) (row : Row) (side : Side) (c : Float) (t : Term) (w : Work) where
-  same-rest : (rest : Option Float) → Same w (fromRest M upper r row side c t rest w)
+module _ {A : Type 0} {g : Work → A} (b : Blind g) (M : Model) (upper : Bool) (r : ℕ) (row : Row) (side : Side) (c : Float) (t : Term) (w : Work) where
+  leaves-rest : (rest : Option Float) → Leaves g w (fromRest M upper r row side c t rest w)
   unfolding fromRest implied
-  same-rest none = same refl
-  same-rest (some rest) = either (Same w) _ (λ e. upper-same M (t .var) w _ _) (λ e. lower-same M (t .var) w _ _)
+  leaves-rest none = same refl
+  leaves-rest (some rest) = either (Leaves g w) _ (λ e. upper-leaves b M (t .var) w _ _) (λ e. lower-leaves b M (t .var) w _ _)
 
-  same-side : Same w (sideStep M upper r row side c t w)
+  leaves-side : Leaves g w (sideStep M upper r row side c t w)
   unfolding sideStep
-  same-side = either (Same w) _ (λ e. same-rest (restOf (side .sum) (side .ninf) c)) (λ e. same refl)
+  leaves-side = either (Leaves g w) _ (λ e. leaves-rest (restOf (side .sum) (side .ninf) c)) (λ e. same refl)
 
 pub side-keeps : {P : Model → Type 0} {s : Shape} (upper : Bool) (r : ℕ) (row : Row) (side : Side) (c : Float) (t : Term) → KeepsStep P s (λ M. sideStep M upper r row side c t)
 side-keeps upper r row side c t = record { keeps = λ M k w p q i. inv-side upper r row side c t w i }
@@ -127,10 +127,10 @@ unfolding both
 inv-term {M} {k} r row act t w i =
     rw (term-of M r row act t w) (inv-then (λ w1. sideStep M false r row (loOf row act) _ t w1) (inv-side true r row (hiOf row act) _ t w i) (λ u j. inv-side false r row (loOf row act) _ t u j))
 
-pub same-term : (M : Model) (r : ℕ) (row : Row) (act : Activity) (t : Term) (w : Work) → Same w (impliedTerm M r row act t w)
+pub leaves-term : {A : Type 0} {g : Work → A} → Blind g → (M : Model) (r : ℕ) (row : Row) (act : Activity) (t : Term) (w : Work) → Leaves g w (impliedTerm M r row act t w)
 unfolding both
-same-term M r row act t w =
-    rw (term-of M r row act t w) (same-then (λ w1. sideStep M false r row (loOf row act) _ t w1) (same-side M true r row (hiOf row act) _ t w) (λ u. same-side M false r row (loOf row act) _ t u))
+leaves-term b M r row act t w =
+    rw (term-of M r row act t w) (same-then (λ w1. sideStep M false r row (loOf row act) _ t w1) (leaves-side b M true r row (hiOf row act) _ t w) (λ u. leaves-side b M false r row (loOf row act) _ t u))
 
 -- ---- implied_rest: by the side's direction
 module _ {ds ss js : List ℕ} {s : Shape} {f f′ : Floats} {n n′ : Numbers} {z : code.Step} (upper : Bool) (r : ℕ) (x : Limits) (side : Side) (c : Float) (v : ℕ) (a rest : Float)

@@ -75,3 +75,8 @@ inv-drop r x w i =
 
 pub drop-keeps : {P : Model → Type 0} {s : Shape} (r : ℕ) → Keeps P s (λ M w. dropRow r (rowOf w r) w)
 drop-keeps r = record { keeps = λ M k w p c i. inv-drop r (rowOf w r) w i }
+
+-- the count of waves is another
+pub drop-passes : (r : ℕ) (x : Row) (w : Work) → dropRow r x w .counts .passes ≡ w .counts .passes
+unfolding dropRow
+drop-passes r x w = refl

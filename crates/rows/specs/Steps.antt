@@ -35,7 +35,7 @@ inv-is (goes i) = i
 pub inv-next : {M : Model} {k : ℕ} {w : Work} {z : Step} → InvStep M k z → z ≡ next w → Inv M k w
 inv-next {M} {k} t e = inv-is (subst (InvStep M k) e t)
 
-pub inv-then : {M : Model} {k : ℕ} {z : Step} (g : Work → Step) → InvStep M k z → ((u : Work) → Inv M k u → InvStep M k (g u)) → InvStep M k (z >>= g)
+pub inv-then : {M : Model} {j k : ℕ} {z : Step} (g : Work → Step) → InvStep M j z → ((u : Work) → Inv M j u → InvStep M k (g u)) → InvStep M k (z >>= g)
 inv-then g stops t = stops
 inv-then g (goes {w} i) t = t w i
 

@@ -22,10 +22,11 @@ use Rattle.view.specs.Known.{Spans, Written, Known, known-spans, known-written}
 use Rattle.readers.specs.Reading.{rowOf, Alive}
 use Rattle.readers.specs.RowAt.{row-at}
 use Rattle.rows.specs.Knowing.{Moves, known-moves}
+use Rattle.rows.specs.Same.{passesOf, Leaves}
 use Rattle.rows.specs.Steps.{tries-as}
-use Rattle.singles.specs.Empty.{inv-empty}
-use Rattle.singles.specs.Singleton.{inv-single}
-use Rattle.several.specs.Several.{inv-several}
+use Rattle.singles.specs.Empty.{inv-empty, passes-empty}
+use Rattle.singles.specs.Singleton.{inv-single, passes-single}
+use Rattle.several.specs.Several.{inv-several, passes-several}
 
 module _ (M : Model) (r : ℕ) (row : Row) (w : Work) where
   count-none : (ts : List Term) → length ts ≡ 0 → byCount M r row ts w ≡ emptyRowCheck M r row w
@@ -73,3 +74,9 @@ inv-count r row (t ∷ u ∷ ts) w i = inv-several r row w i
 
 pub count-keeps : {P : Model → Type 0} {s : Shape} (r : ℕ) → KeepsStep P s (λ M w. byCount M r (rowOf w r) (rowOf w r .terms) w)
 count-keeps r = record { keeps = λ M k w p c i. inv-count r (rowOf w r) (rowOf w r .terms) w i }
+
+pub passes-count : (M : Model) (r : ℕ) (row : Row) (ts : List Term) (w : Work) → Leaves passesOf w (byCount M r row ts w)
+unfolding byCount
+passes-count M r row [] w = passes-empty M r row w
+passes-count M r row (t ∷ []) w = passes-single M r row t w
+passes-count M r row (t ∷ u ∷ ts) w = passes-several M r row w

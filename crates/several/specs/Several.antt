@@ -32,9 +32,10 @@ use Rattle.readers.specs.Reading.{rowOf, Alive}
 use Rattle.readers.specs.Limits.{ReadsLimits}
 use Rattle.rows.specs.Knowing.{Looks, Marks, Moves, moves-spans, moves-looks, moves-marks, of-call}
 use Rattle.rows.specs.Steps.{tries-as, acts-as, acts-any}
-use Rattle.rows.specs.Drop.{inv-drop}
-use Rattle.implied.specs.Loop.{inv-bounds}
-use Rattle.forcing.specs.Fixing.{fix-all-keeps, fix-all-rows, inv-fix-all}
+use Rattle.rows.specs.Same.{rowsOf, passesOf, rows-blind, passes-blind, Leaves, halts, same}
+use Rattle.rows.specs.Drop.{inv-drop, drop-passes}
+use Rattle.implied.specs.Loop.{inv-bounds, leaves-bounds}
+use Rattle.forcing.specs.Fixing.{fix-all-keeps, fix-all-leaves, inv-fix-all}
 
 -- ---- the definition, from the inside out
 unfoldable pub leftover : Model → ℕ → Row → Activity → Activity → Work → Step
@@ -59,7 +60,7 @@ force-acts minCorner r t u =
     acts-as
     (λ M o k w p c h i.
     let v = fixAll M minCorner w (rowOf w r .terms) w in
-    ap (λ (x : Row). dropRow r x v) (ap (λ (l : List Row). getD l r noRow) (sym (fix-all-rows M minCorner w (rowOf w r .terms) w))))
+    ap (λ (x : Row). dropRow r x v) (ap (λ (l : List Row). getD l r noRow) (sym (fix-all-leaves rows-blind M minCorner w (rowOf w r .terms) w))))
     (acts-then t (fix-all-keeps minCorner r) (acts-any u))
 
 -- ---- unforced
@@ -142,3 +143,11 @@ inv-several {M} {k} r row w i =
     (λ e. either (InvStep M k) _ (λ e′. goes (inv-drop r row _ (inv-fix-all true w (row .terms) w i)))
     (λ e′. either (InvStep M k) _ (λ e″. goes (inv-drop r row _ (inv-fix-all false w (row .terms) w i)))
     (λ e″. either (InvStep M k) _ (λ e‴. goes (inv-drop r row w i)) (λ e‴. inv-bounds r row _ (row .terms) w i))))
+
+pub passes-several : (M : Model) (r : ℕ) (row : Row) (w : Work) → Leaves passesOf w (severalTerms M r row w)
+unfolding severalTerms
+passes-several M r row w =
+    either (Leaves passesOf w) _ (λ e. halts)
+    (λ e. either (Leaves passesOf w) _ (λ e′. same (drop-passes r row _ ∙ fix-all-leaves passes-blind M true w (row .terms) w))
+    (λ e′. either (Leaves passesOf w) _ (λ e″. same (drop-passes r row _ ∙ fix-all-leaves passes-blind M false w (row .terms) w))
+    (λ e″. either (Leaves passesOf w) _ (λ e‴. same (drop-passes r row w)) (λ e‴. leaves-bounds passes-blind M r row _ (row .terms) w))))

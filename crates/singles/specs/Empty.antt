@@ -15,7 +15,8 @@ use Rattle.view.specs.Acts.{ActsN, Any, Tries}
 use Rattle.view.specs.Steps.{InvStep, stops, goes, KeepsStep}
 use Rattle.view.specs.Bounds.{went-by, stopped-by}
 use Rattle.readers.specs.Reading.{rowOf, ReadsF}
-use Rattle.rows.specs.Drop.{inv-drop}
+use Rattle.rows.specs.Same.{passesOf, Leaves, halts, same}
+use Rattle.rows.specs.Drop.{inv-drop, drop-passes}
 
 module _ {P : Model → Type 0} {s : Shape} {f : Floats} {n : Numbers} (r : ℕ) {b : Bool} (g : ReadsF P s f b (λ M w. violated (M .feas) (opOf M r) (written M r) (rhsOf M r) (fixedValue w))) where
   pub empty-stop : b ≡ true → Tries P s f n f n Stop (λ M w. emptyRowCheck M r (rowOf w r) w)
@@ -32,3 +33,7 @@ inv-empty {M} {k} r row w i = either (InvStep M k) _ (λ e. stops) (λ e. goes (
 
 pub empty-keeps : {P : Model → Type 0} {s : Shape} (r : ℕ) → KeepsStep P s (λ M w. emptyRowCheck M r (rowOf w r) w)
 empty-keeps r = record { keeps = λ M k w p c i. inv-empty r (rowOf w r) w i }
+
+pub passes-empty : (M : Model) (r : ℕ) (row : Row) (w : Work) → Leaves passesOf w (emptyRowCheck M r row w)
+unfolding emptyRowCheck
+passes-empty M r row w = either (Leaves passesOf w) _ (λ e. halts) (λ e. same (drop-passes r row w))

@@ -33,9 +33,9 @@ use Rattle.readers.specs.Reading.{rowOf, Alive, ReadsF, ReadsM, Domains}
 use Rattle.readers.specs.Limits.{ReadsLimits}
 use Rattle.readers.specs.RowAt.{row-at, live-place, live-var}
 use Rattle.rows.specs.Knowing.{Marks, Moves, marks-spans, marks-adj, moves-spans, moves-domains, moves-marks, of-call}
-use Rattle.rows.specs.Same.{Same, halts, same, same-next, emit-rows}
+use Rattle.rows.specs.Same.{Blind, passesOf, rows-blind, passes-blind, Leaves, Same, halts, same, same-next, same-then, emit-leaves}
 use Rattle.rows.specs.Steps.{tries-as, stopped-then, inv-next, inv-then}
-use Rattle.rows.specs.Drop.{inv-drop}
+use Rattle.rows.specs.Drop.{inv-drop, drop-passes}
 
 -- what is read of an alive row by a function that has the floats alone
 pub record ReadsRow {A : Type 0} (P : Model → Type 0) (s : Shape) (f : Floats) (r : ℕ) (z : A) (F : Model → Work → A) : Type 0 where
@@ -130,10 +130,15 @@ module _ {s : Shape} {f : Floats} {n : Numbers} (r v : ℕ) (a blo bhi : Float) 
   single-stay e = record { does = λ M o k w p c h i. subst (λ (u : Work). Shows M f n o u) (sym (no _ _ (eb .reads n al .reads M o k w tt c h i ∙ e))) h }
 
 -- ---- it keeps the invariant, and the bounds change no row
+leaves-bounds : {A : Type 0} {g : Work → A} → Blind g → (M : Model) (r v : ℕ) (row : Row) (a blo bhi : Float) (w : Work) → Leaves g w (singletonBounds M r row v a blo bhi w)
+unfolding singletonBounds singletonInt
+leaves-bounds {g = g} b M r v row a blo bhi w =
+    either (Leaves g w) _ (λ e. either (Leaves g w) _ (λ e′. halts) (λ e′. same (emit-leaves b M v _ _ w))) (λ e. either (Leaves g w) _ (λ e′. halts) (λ e′. same refl))
+
 module _ (M : Model) (r v : ℕ) (row : Row) (a blo bhi : Float) (w : Work) where
-  same-bounds : Same w (singletonBounds M r row v a blo bhi w)
-  unfolding singletonBounds singletonInt
-  same-bounds = either (Same w) _ (λ e. either (Same w) _ (λ e′. halts) (λ e′. same (emit-rows M v _ _ w))) (λ e. either (Same w) _ (λ e′. halts) (λ e′. same refl))
+  passes-single-drop : singletonDrop M r row v a blo bhi w .counts .passes ≡ w .counts .passes
+  unfolding singletonDrop
+  passes-single-drop = either (λ (u : Work). u .counts .passes ≡ w .counts .passes) _ (λ e. drop-passes r row w) (λ e. refl)
 
   module _ {k : ℕ} (i : Inv M k w) where
     inv-bounds : InvStep M k (singletonBounds M r row v a blo bhi w)
@@ -145,7 +150,7 @@ module _ (M : Model) (r v : ℕ) (row : Row) (a blo bhi : Float) (w : Work) wher
     inv-single-drop = either (Inv M k) _ (λ e. inv-drop r row w i) (λ e. i)
 
 pub bounds-same : (r v : ℕ) (a blo bhi : Float) (M : Model) (w : Work) → Same w (singletonBounds M r (rowOf w r) v a blo bhi w)
-bounds-same r v a blo bhi M w = same-bounds M r v (rowOf w r) a blo bhi w
+bounds-same r v a blo bhi M w = leaves-bounds rows-blind M r v (rowOf w r) a blo bhi w
 
 pub bounds-keeps : {P : Model → Type 0} {s : Shape} (r v : ℕ) (a blo bhi : Float) → KeepsStep P s (λ M w. singletonBounds M r (rowOf w r) v a blo bhi w)
 bounds-keeps r v a blo bhi = record { keeps = λ M k w p c i. inv-bounds M r v (rowOf w r) a blo bhi w i }
@@ -156,6 +161,13 @@ inv-single {M} {k} r row t w i =
     (inv-then (λ w1. next (singletonDrop M r row (t .var) (t .coeff) (lowerSide row (t .coeff)) (upperSide row (t .coeff)) w1))
     (inv-bounds M r (t .var) row (t .coeff) (lowerSide row (t .coeff)) (upperSide row (t .coeff)) w i)
     (λ u j. goes (inv-single-drop M r (t .var) row (t .coeff) (lowerSide row (t .coeff)) (upperSide row (t .coeff)) u j)))
+
+pub passes-single : (M : Model) (r : ℕ) (row : Row) (t : Term) (w : Work) → Leaves passesOf w (singletonRow M r row t w)
+passes-single M r row t w =
+    rw (singleton-of M r row t w)
+    (same-then (λ w1. next (singletonDrop M r row (t .var) (t .coeff) (lowerSide row (t .coeff)) (upperSide row (t .coeff)) w1))
+    (leaves-bounds passes-blind M r (t .var) row (t .coeff) (lowerSide row (t .coeff)) (upperSide row (t .coeff)) w)
+    (λ u. same (passes-single-drop M r (t .var) row (t .coeff) (lowerSide row (t .coeff)) (upperSide row (t .coeff)) u)))
 
 pub single-keeps : {P : Model → Type 0} {s : Shape} (r : ℕ) → KeepsStep P s (λ M w. singletonRow M r (rowOf w r) (getD (rowOf w r .terms) 0 noTerm) w)
 single-keeps r = record { keeps = λ M k w p c i. inv-single r (rowOf w r) (getD (rowOf w r .terms) 0 noTerm) w i }

@@ -1,0 +1,70 @@
+// `tighten_binary_coeffs`: which terms are eligible.
+ghost use Prim.Native.Nat.{_<_};
+ghost use lib.ListN.{length};
+ghost use Rattle.definition.specs.Tighten as definition;
+ghost use Rattle.formulas.specs.Bare.{bare};
+ghost use Rattle.formulas.specs.Rewriting.{formIs, rewriteIs, rewriteAt};
+ghost use Rattle.space.specs.Store.{floatsOf, numbersOf, HoldsF, HoldsN};
+ghost use Rattle.view.specs.Acts.{Ready, Reads};
+ghost use Rattle.readers.specs.Reading.{Alive, ReadsF, Domains};
+ghost use Rattle.readers.specs.Limits.{ReadsLimits};
+ghost use Rattle.coeffs.specs.Eligible.{Binaries, countAll};
+use definition::Activity;
+use formulas::Form;
+use formulas::Limits;
+use formulas::Rewrite;
+use space::Shape;
+
+// = rewriteOf, of the variable v with the coefficient a in a row with the limits x
+fn rewrite_term(
+    domain: &[u8],
+    w: &[f64],
+    s: Shape,
+    f: Form,
+    nz: f64,
+    x: Limits,
+    act: Activity,
+    v: usize,
+    a: f64,
+) -> Rewrite
+    requires { ⌜ (v < s .vars) × (v < length (now domain)) × HoldsF s (now w) ⌝ }
+    ensures { λ z. ⌜ ReadsF (Domains (now (domain .entry))) s (floatsOf s (now (w .entry))) (rewriteIs z) (λ M u. rewriteAt M (definition.binary M u v) (formIs f) nz (bare x) act a) ⌝ }
+{
+    let int = readers::is_int_domain(domain, v);
+    let lo = space::get_elo(w, s, v);
+    let hi = space::get_ehi(w, s, v);
+    let b = formulas::binary(int, lo, hi);
+    formulas::rewrite_of(b, f, nz, x, act, a)
+}
+
+// = eligible, over the live terms of row r, whose limits are x
+pub fn eligible(
+    domain: &[u8],
+    starts: &[usize],
+    w: &[f64],
+    m: &[usize],
+    s: Shape,
+    f: Form,
+    nz: f64,
+    x: Limits,
+    act: Activity,
+    r: usize,
+) -> usize
+    requires { ⌜ (r < s .rows) × HoldsF s (now w) × HoldsN s (now m) × Alive (numbersOf s (now m)) r ⌝ }
+    requires { ⌜ ReadsLimits s (floatsOf s (now w)) r x ⌝ }
+    requires { ⌜ Ready (Binaries (now domain) (now starts)) s (floatsOf s (now w)) (numbersOf s (now m)) ⌝ }
+    ensures { λ z. ⌜ Reads (Binaries (now (domain .entry)) (now (starts .entry))) s (floatsOf s (now (w .entry))) (numbersOf s (now (m .entry))) z (countAll (formIs f) nz act r) ⌝ }
+{
+    let a = starts[r];
+    let len = space::get_len(m, s, r);
+    let mut n = 0;
+    let mut i = 0;
+    while i < len {
+        let v = space::get_var(m, s, a + i);
+        let c = space::get_coeff(w, s, a + i);
+        let z = rewrite_term(domain, w, s, f, nz, x, act, v, c);
+        n += formulas::rewrite_count(z);
+        i += 1;
+    }
+    n
+}

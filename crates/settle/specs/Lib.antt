@@ -1,0 +1,2 @@
+-- The last look at the rows.
+pub mod Settling
