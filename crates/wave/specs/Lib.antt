@@ -1,0 +1,5 @@
+-- A wave on the slices.
+pub mod Row
+pub mod Rows
+pub mod Begin
+pub mod Again
