@@ -63,7 +63,7 @@ module _ (us : List Term) (t : Term) where
       (or-true (eqb (x .var) v && not (eq (x .coeff) 0f)) (hasNonzero v (ts ++ us)) h)
 
 -- ---- the binaries of a row whose terms lose no variable that is not zero
-binaries-by : {M : Model} {r : ℕ} {x y : Row} → ((v : ℕ) → hasNonzero v (x .terms ++ x .folded) ≡ true → hasNonzero v (y .terms ++ y .folded) ≡ true) → {vs : List ℕ} → BinariesIn M r x vs → BinariesIn M r y vs
+pub binaries-by : {M : Model} {r : ℕ} {x y : Row} → ((v : ℕ) → hasNonzero v (x .terms ++ x .folded) ≡ true → hasNonzero v (y .terms ++ y .folded) ≡ true) → {vs : List ℕ} → BinariesIn M r x vs → BinariesIn M r y vs
 binaries-by k binariesIn[] = binariesIn[]
 binaries-by k (binariesIn∷ {v} h e b) = binariesIn∷ h (k v e) (binaries-by k b)
 
@@ -107,7 +107,7 @@ has-later v x vs h = go (eqb x v) (has v vs) h
     go true b h = true-false h
     go false b h = h
 
-differ-sym : (u v : ℕ) → eqb v u ≡ false → eqb u v ≡ false
+pub differ-sym : (u v : ℕ) → eqb v u ≡ false → eqb u v ≡ false
 differ-sym u v e = eqb-differ u v (λ g. true-false (sym (eqb-same v u (sym g)) ∙ e))
 
 pub binaries-snoc : {M : Model} {r : ℕ} {row : Row} {vs : List ℕ} (u : ℕ) → BinariesIn M r row vs → has u vs ≡ false → hasNonzero u (row .terms ++ row .folded) ≡ true → BinariesIn M r row (vs ++ (u ∷ []))
@@ -127,7 +127,7 @@ set-new us v a z [] i p = absurd (omega arith)
 set-new us v a z (x ∷ ts) zero p = rw (z, eqb-same v v refl) refl
 set-new us v a z (x ∷ ts) (suc i) p = or-right (eqb (x .var) v && not (eq (x .coeff) 0f)) (set-new us v a z ts i (omega arith))
 
-taken-in : {M : Model} {r : ℕ} {row : Row} (mag : Float) {o : Option Binding} → BindingIn M r row o → BinariesIn M r row (taken mag o .binaries)
+pub taken-in : {M : Model} {r : ℕ} {row : Row} (mag : Float) {o : Option Binding} → BindingIn M r row o → BinariesIn M r row (taken mag o .binaries)
 unfolding taken
 taken-in mag noneIn = binariesIn[]
 taken-in mag (someIn b) = b
@@ -140,7 +140,7 @@ bound-in {M} {r} w row v a b bp h k =
     either (BinariesIn M r row) (has v (taken (rhsMag row b) (row .binding) .binaries)) (λ e. old) (λ e. binaries-snoc v old e h)
 
 module _ {M : Model} {r : ℕ} (w : Work) (row : Row) (i v : ℕ) (a na bp : Float) (p : i < length (row .terms)) (e : v ≡ getD (row .terms) i noTerm .var) (z : eq na 0f ≡ false) (n : RowInv M r row) where
-  rebind-inv : (b lo hi : Float) → RowInv M r (withBinding (some (rewriteBinding M w (setCoeff i v na row) v a b bp)) (withRange lo hi (setCoeff i v na row)))
+  pub rebind-inv : (b lo hi : Float) → RowInv M r (withBinding (some (rewriteBinding M w (setCoeff i v na row) v a b bp)) (withRange lo hi (setCoeff i v na row)))
   unfolding setCoeff
   rebind-inv b lo hi =
       let k = set-inv row i v na p e z n in

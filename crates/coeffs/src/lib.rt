@@ -5,3 +5,4 @@ mod tighten;
 pub use bindings::rewritten_bound;
 pub use bindings::sum_coeffs;
 pub use tighten::eligible;
+pub use tighten::rewrite_term;

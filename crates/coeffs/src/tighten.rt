@@ -16,7 +16,7 @@ use formulas::Rewrite;
 use space::Shape;
 
 // = rewriteOf, of the variable v with the coefficient a in a row with the limits x
-fn rewrite_term(
+pub fn rewrite_term(
     domain: &[u8],
     w: &[f64],
     s: Shape,

@@ -22,6 +22,7 @@ use Rattle.view.specs.Call.{Call}
 use Rattle.view.specs.Shows.{isOne, Shows, partsOf, tallyOf}
 use Rattle.view.specs.Inv.{Inv}
 use Rattle.view.specs.Acts.{Ready, Reads}
+use Rattle.view.specs.Known.{Written}
 use Rattle.view.specs.Lists.{yes, no, one-is, one-not}
 use Rattle.view.specs.Rows.{same?}
 use Rattle.readers.specs.Reading.{rowOf, Alive}
@@ -36,6 +37,21 @@ pub trivial-tells : {s : Shape} {ss os : List ℕ} {bs : List Float} {r : ℕ} (
     → TellsTrivial s ss os bs r z
 unfolding trivial opOf rhsOf nnz from upto
 trivial-tells t e f = record { tells = λ M a b d c. rw (a, b, d, ← c .feas) (sym (f ∙ ap saysTrue e)) }
+
+-- what it needs of the rows as written, and has of the slices
+pub written-gives : {ss is : List ℕ} {cs : List Float} {os : List ℕ} {bs : List Float} (M : Model) → Written ss is cs os bs M → (M .starts ≡ ss) × (M .cmp ≡ os) × (M .rhs ≡ bs)
+written-gives M x = (x .starts, x .cmp, x .rhs)
+
+pub ready-trivial : {ss is : List ℕ} {cs : List Float} {os : List ℕ} {bs : List Float} {s : Shape} {f : Floats} {n : Numbers} {r : ℕ} → Ready (Written ss is cs os bs) s f n → r < s .rows
+    → (r + 1 < length ss) × (r < length os) × (r < length bs) × (getD ss r 0 ≤ getD ss (r + 1) 0)
+unfolding from upto
+ready-trivial {ss} {r = r} R p =
+    let x = R .known in
+    let c = R .call in
+    let q : r < length (R .model .rhs) = omega (arith, p, c .rows) in
+    let a = ap (λ (l : List ℕ). getD l r 0) (x .starts) in
+    let b = ap (λ (l : List ℕ). getD l (r + 1) 0) (x .starts) in
+    (omega (arith, q, c .starts, ap length (x .starts)), omega (arith, q, c .cmps, ap length (x .cmp)), omega (arith, q, ap length (x .rhs)), omega (arith, a, b, c .rise r q))
 
 -- ---- the blocks of fates and bounds, which show nothing
 abbrev pub withFate : List ℕ → Numbers → Numbers
@@ -67,8 +83,12 @@ pub record JudgedRow (P : Model → Type 0) (s : Shape) (f : Floats) (n : Number
   pub fate : (M : Model) (o : List ℕ) (k : ℕ) (w : Work) → P M → Call M s → Shows M f n o w → Inv M k w → getD (n′ .fate) r 0 ≡ fateOf M r (rowOf w r)
   pub bound : (M : Model) (o : List ℕ) (k : ℕ) (w : Work) → P M → Call M s → Shows M f n o w → Inv M k w → isRewritten (getD (n′ .fate) r 0) ≡ true → at (f′ .bound) r ≡ rewrittenBound M (rowOf w r) r
 
+-- what the slices show they show still
+pub shows-still : {M : Model} {f f′ : Floats} {n n′ : Numbers} {o : List ℕ} {w : Work} → f′ ≡ withBound (f′ .bound) f → n′ ≡ withFate (n′ .fate) n → Shows M f n o w → Shows M f′ n′ o w
+shows-still {M} {f} {f′} {n} {n′} {o} {w} a b h =
+    subst (λ (x : Floats). Shows M x n′ o w) (sym a) (subst (λ (x : Numbers). Shows M (withBound (f′ .bound) f) x o w) (sym b) (shows-with (f′ .bound) (n′ .fate) h))
+
 module _ {P : Model → Type 0} {s : Shape} {f f′ : Floats} {n n′ : Numbers} where
-  -- what the slices show they show still
   pub judged-ready : Ready P s f n → f′ ≡ withBound (f′ .bound) f → n′ ≡ withFate (n′ .fate) n → Ready P s f′ n′
   judged-ready R a b =
       record {
@@ -78,9 +98,7 @@ module _ {P : Model → Type 0} {s : Shape} {f f′ : Floats} {n n′ : Numbers}
         work = R .work;
         known = R .known;
         call = R .call;
-        shows =
-            subst (λ (x : Floats). Shows (R .model) x n′ (R .other) (R .work)) (sym a)
-            (subst (λ (x : Numbers). Shows (R .model) (withBound (f′ .bound) f) x (R .other) (R .work)) (sym b) (shows-with (f′ .bound) (n′ .fate) (R .shows)));
+        shows = shows-still a b (R .shows);
         inv = R .inv;
       }
 
@@ -90,8 +108,7 @@ module _ {P : Model → Type 0} {s : Shape} {f f′ : Floats} {n n′ : Numbers}
         floats = R .floats ∙ ap (withBound (f₁ .bound)) (J .floats);
         numbers = R .numbers ∙ ap (withFate (n₁ .fate)) (J .numbers);
         fates = λ M o k w p c h i.
-            let h′ : Shows M f′ n′ o w =
-            subst (λ (x : Floats). Shows M x n′ o w) (sym (J .floats)) (subst (λ (x : Numbers). Shows M (withBound (f′ .bound) f) x o w) (sym (J .numbers)) (shows-with (f′ .bound) (n′ .fate) h)) in
+            let h′ = shows-still (J .floats) (J .numbers) h in
             let F = J .fates M o k w p c h i in
             record {
               fate = λ q l.

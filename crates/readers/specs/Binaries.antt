@@ -37,7 +37,7 @@ and-left : (a b : Bool) → (a && b) ≡ true → a ≡ true
 and-left true b e = refl
 and-left false b e = e
 
-nonzero-has : (v : ℕ) (ts : List Term) → hasNonzero v ts ≡ true → hasTerm v ts ≡ true
+pub nonzero-has : (v : ℕ) (ts : List Term) → hasNonzero v ts ≡ true → hasTerm v ts ≡ true
 unfolding hasNonzero hasTerm
 nonzero-has v [] e = e
 nonzero-has v (t ∷ ts) e =

@@ -11,7 +11,7 @@ use lib.Ieee.{Float}
 use Rattle.floats.specs.Num.{choose}
 use Rattle.tolerances.specs.Tol.{Term}
 use Rattle.definition.specs.declared.Counts.{Counts}
-use Rattle.definition.specs.Model.{Model, from, upto, Row}
+use Rattle.definition.specs.Model.{Model, Row}
 use Rattle.definition.specs.Work.{Work, withRow, Step, stop, next, _>>=_, noRow, trivial}
 use Rattle.definition.specs.Folds.{foldFixed}
 use Rattle.definition.specs.Singles.{emptyRowCheck}
@@ -26,7 +26,6 @@ use Rattle.view.specs.Inv.{Inv}
 use Rattle.view.specs.Acts.{Ready, Acts, Tries, Keeps}
 use Rattle.view.specs.Steps.{InvStep, stops, goes, KeepsStep, tries-then, tries-stop, keeps-then, keeps-next, ready-went}
 use Rattle.view.specs.Lists.{yes, no, either, one-not}
-use Rattle.view.specs.Known.{Written}
 use Rattle.readers.specs.Reading.{rowOf, Alive}
 use Rattle.readers.specs.RowAt.{row-alive}
 use Rattle.folds.specs.Kept.{fold-fixed-keeps}
@@ -85,20 +84,6 @@ module _ {P : Model → Type 0} {s : Shape} {f f₁ : Floats} {n n₁ : Numbers}
       }
 
 -- ---- settle_row
-pub written-gives : {ss is : List ℕ} {cs : List Float} {os : List ℕ} {bs : List Float} (M : Model) → Written ss is cs os bs M → (M .starts ≡ ss) × (M .cmp ≡ os) × (M .rhs ≡ bs)
-written-gives M x = (x .starts, x .cmp, x .rhs)
-
-pub ready-trivial : {ss is : List ℕ} {cs : List Float} {os : List ℕ} {bs : List Float} {s : Shape} {f : Floats} {n : Numbers} {r : ℕ} → Ready (Written ss is cs os bs) s f n → r < s .rows
-    → (r + 1 < length ss) × (r < length os) × (r < length bs) × (getD ss r 0 ≤ getD ss (r + 1) 0)
-unfolding from upto
-ready-trivial {ss} {r = r} R p =
-    let x = R .known in
-    let c = R .call in
-    let q : r < length (R .model .rhs) = omega (arith, p, c .rows) in
-    let a = ap (λ (l : List ℕ). getD l r 0) (x .starts) in
-    let b = ap (λ (l : List ℕ). getD l (r + 1) 0) (x .starts) in
-    (omega (arith, q, c .starts, ap length (x .starts)), omega (arith, q, c .cmps, ap length (x .cmp)), omega (arith, q, ap length (x .rhs)), omega (arith, a, b, c .rise r q))
-
 module _ {P : Model → Type 0} {ss os : List ℕ} {bs : List Float} {s : Shape} (r : ℕ) (p : r < s .rows) (known : (M : Model) → P M → (M .starts ≡ ss) × (M .cmp ≡ os) × (M .rhs ≡ bs)) {t : Bool} (T : TellsTrivial s ss os bs r t) where
   trivial-is : (M : Model) → P M → Call M s → trivial M r ≡ t
   trivial-is M x c = let a = known M x in T .tells M (a .0) (a .1) (a .2) c

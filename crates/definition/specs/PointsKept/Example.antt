@@ -64,15 +64,17 @@ twice-pure =
         rising = λ r k h l u. absurd (none r k h u);
         op = only (λ r. opOf twice r ≤ 2) (omega arith);
       };
-      integral = only (λ v. (getD (twice .domain) v 0 ≡ 0) ⊎ (getD (twice .domain) v 0 ≡ 2)) (inl refl);
-      lower = only (λ v. Bounded 1048576 (at (twice .lower) v)) (bounded 0 1048576 (omega arith) (omega arith));
-      upper = only (λ v. Bounded 1048576 (at (twice .upper) v)) (bounded 10 1048576 (omega arith) (omega arith));
-      coeff = only (λ k. Bounded 32768 (at (twice .coeff) k)) (bounded 2 32768 (omega arith) (omega arith));
-      rhs = only (λ r. Bounded 1099511627776 (rhsOf twice r)) (bounded 7 1099511627776 (omega arith) (omega arith));
-      terms = only (λ r. nnz twice r ≤ 256) (omega arith);
-      feas = record { held = record { fits = tt }; low = record { le = tt }; high = record { le = tt } };
-      intTol = record { held = record { fits = tt }; low = record { le = tt }; high = record { le = tt } };
-      mode = inl refl;
+      farm = record {
+        integral = only (λ v. (getD (twice .domain) v 0 ≡ 0) ⊎ (getD (twice .domain) v 0 ≡ 2)) (inl refl);
+        lower = only (λ v. Bounded 1048576 (at (twice .lower) v)) (bounded 0 1048576 (omega arith) (omega arith));
+        upper = only (λ v. Bounded 1048576 (at (twice .upper) v)) (bounded 10 1048576 (omega arith) (omega arith));
+        coeff = only (λ k. Bounded 32768 (at (twice .coeff) k)) (bounded 2 32768 (omega arith) (omega arith));
+        rhs = only (λ r. Bounded 1099511627776 (rhsOf twice r)) (bounded 7 1099511627776 (omega arith) (omega arith));
+        terms = only (λ r. nnz twice r ≤ 256) (omega arith);
+        feas = record { held = record { fits = tt }; low = record { le = tt }; high = record { le = tt } };
+        intTol = record { held = record { fits = tt }; low = record { le = tt }; high = record { le = tt } };
+        mode = inl refl;
+      };
     }
   where
     none : (r k : ℕ) → r < 1 → suc k < upto twice r → ⊥

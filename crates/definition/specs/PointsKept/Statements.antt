@@ -39,9 +39,8 @@ pub record Shaped (M : Model) : Type 0 where
   pub rising : (r k : ℕ) → r < length (M .rhs) → from M r ≤ k → suc k < upto M r → getD (M .index) k 0 < getD (M .index) (suc k) 0
   pub op : (r : ℕ) → r < length (M .rhs) → opOf M r ≤ 2
 
--- 01's "farm model": an accepted call whose variables are Integer (0) or Boolean (2), and these numbers. `Bounded k x`: x is a finite whole number of magnitude at most k
-pub record PureInteger (M : Model) : Type 0 where
-  pub shape : Shaped M
+-- 01's "farm model": variables Integer (0) or Boolean (2), and these numbers. `Bounded k x`: x is a finite whole number of magnitude at most k
+pub record Farm (M : Model) : Type 0 where
   pub integral : (v : ℕ) → v < length (M .lower) → (getD (M .domain) v 0 ≡ 0) ⊎ (getD (M .domain) v 0 ≡ 2)
   pub lower : (v : ℕ) → v < length (M .lower) → Bounded 1048576 (at (M .lower) v)
   pub upper : (v : ℕ) → v < length (M .lower) → Bounded 1048576 (at (M .upper) v)
@@ -51,6 +50,11 @@ pub record PureInteger (M : Model) : Type 0 where
   pub feas : Tolerance (M .feas)
   pub intTol : Tolerance (M .intTol)
   pub mode : (M .mode ≡ 1) ⊎ (M .mode ≡ 2)
+
+-- such a model of an accepted call
+pub record PureInteger (M : Model) : Type 0 where
+  pub shape : Shaped M
+  pub farm : Farm M
 
 -- ---- the points: x gives each variable a signed whole number
 -- the sum of a list of terms

@@ -1,4 +1,5 @@
-use Rattle.settle.specs.Settling.{written-gives, ready-trivial, row-trivial, row-gone, row-live}
+use Rattle.emit.specs.Judging.{written-gives, ready-trivial}
+use Rattle.settle.specs.Settling.{row-trivial, row-gone, row-live}
 use borrow.Author.Needs.{needs}
 use Rattle.settle.proofs.settle_row.Statement.{statement}
 use Rattle.settle.proofs.settle_row.Tie as tie

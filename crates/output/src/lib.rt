@@ -1,0 +1,21 @@
+// The end of presolve: the fate of each row is judged, and then the answer is written to the caller's
+// result slices.
+mod entries;
+mod judge;
+mod lists;
+mod summary;
+mod tail;
+
+pub use lists::write_results;
+pub use summary::read_counts;
+
+// `Presolved`, but for the lists, which stand in the result slices: the counts, how many rows are
+// emitted, how many terms the rewritten ones have, how many rows are kept for validation, and whether
+// the result differs from the model.
+pub struct Reduced {
+    pub counts: definition::Counts,
+    pub emitted: usize,
+    pub terms: usize,
+    pub kept: usize,
+    pub flag: bool,
+}

@@ -1,0 +1,181 @@
+-- 01's DEMANDS ABOUT THE CALL ITSELF: what follows of the promise, in terms of the call's answer and of what the lent slices hold after it.
+use Prim.Native.Nat.{ℕ, zero, suc, _≤_, _<_}
+use native.Mathlib.Omega.{arith}
+use mathlib.Core.Path.{_≡_, refl, ap, sym, _∙_, subst}
+use mathlib.Core.Logic.{_↔_}
+use mathlib.Core.Bool.{Bool, true, false}
+use mathlib.Core.List.{List, []}
+use mathlib.Core.Option.{Option, none, some}
+use lib.IntN.{ℤ}
+use lib.ListN.{length, getD, take, replicate}
+use lib.Ieee.{Float}
+use Rattle.floats.specs.Num.{0f}
+use Rattle.tolerances.specs.Tol.{at}
+use Rattle.definition.specs.declared.Counts.{Counts}
+use Rattle.definition.specs.Params.{params, maxWaves}
+use Rattle.definition.specs.Model as definition
+use Rattle.definition.specs.Model.{Model, isInt, Emit, Reduced}
+use Rattle.definition.specs.Presolve.{presolve}
+use Rattle.definition.specs.Refusal.{refusal}
+use Rattle.definition.specs.RowsKept.Statements.{Fate, entriesOf, occurs, countBelow, noEntry}
+use Rattle.definition.specs.RowsKept.Theorems as kept
+use Rattle.definition.specs.PointsKept.Statements.{Farm, PureInteger, Point, MeetsReduced, WholeReduced, Exact}
+use Rattle.definition.specs.PointsKept.Theorem.{points-kept}
+use Rattle.definition.specs.PointsKept.Accepted.{accepted-shaped}
+use Rattle.output.specs.Results.{Results, written}
+use Rattle.presolve.specs.declared.Answer.{Answer}
+use Rattle.presolve.specs.Promise.{Working, working, lengths, Outcome, refused, infeasible, presolved, answerIs, outcome, resultsAfter, workingAfter, Promise}
+use Rattle.presolve.specs.Fronts.{entriesFrom, termsFrom, reducedIn, reduced-in}
+
+-- ---- the three answers are three
+abbrev kind : Outcome → ℕ
+kind (refused k) = 0
+kind (infeasible k) = 1
+kind (presolved k n t q g) = 2
+
+abbrev number : Outcome → ℕ
+number (refused k) = k
+number (infeasible k) = 0
+number (presolved k n t q g) = 0
+
+abbrev countsIn : Counts → Outcome → Counts
+countsIn d (refused k) = d
+countsIn d (infeasible k) = k
+countsIn d (presolved k n t q g) = k
+
+differ : {A : Type 0} {o p : Outcome} → o ≡ p → (kind o ≡ kind p → ⊥) → A
+differ e f = absurd (f (ap kind e))
+
+-- which answer it is says which case of the definition holds
+refused-by : (r : Option ℕ) (a : definition.Answer) (k : ℕ) → outcome r a ≡ refused k → r ≡ some k
+unfolding outcome
+refused-by (some j) a k e = ap some (ap number e)
+refused-by none (definition.infeasible c) k e = differ e (λ q. omega (arith, q))
+refused-by none (definition.done x) k e = differ e (λ q. omega (arith, q))
+
+refused-of : (r : Option ℕ) (a : definition.Answer) (k : ℕ) → r ≡ some k → outcome r a ≡ refused k
+unfolding outcome
+refused-of r a k e = rw e refl
+
+infeasible-by : (r : Option ℕ) (a : definition.Answer) (k : Counts) → outcome r a ≡ infeasible k → (r ≡ none) × (a ≡ definition.infeasible k)
+unfolding outcome
+infeasible-by (some j) a k e = differ e (λ q. omega (arith, q))
+infeasible-by none (definition.infeasible c) k e = (refl, ap (λ (o : Outcome). definition.infeasible (countsIn k o)) e)
+infeasible-by none (definition.done x) k e = differ e (λ q. omega (arith, q))
+
+infeasible-of : (r : Option ℕ) (a : definition.Answer) (k : Counts) → (r ≡ none) × (a ≡ definition.infeasible k) → outcome r a ≡ infeasible k
+unfolding outcome
+infeasible-of r a k e = rw (e .0, e .1) refl
+
+-- a model: its values are the definition's
+pub record Modelled (r : Option ℕ) (a : definition.Answer) (k : Counts) (n t q : ℕ) (g : Bool) : Type 0 where
+  pub reduced : Reduced
+  pub accepted : r ≡ none
+  pub is : a ≡ definition.done reduced
+  pub values : presolved (reduced .counts) (length (reduced .emitted)) (length (reduced .terms)) (length (reduced .kept)) (reduced .flag) ≡ presolved k n t q g
+
+presolved-by : (r : Option ℕ) (a : definition.Answer) (k : Counts) (n t q : ℕ) (g : Bool) → outcome r a ≡ presolved k n t q g → Modelled r a k n t q g
+unfolding outcome
+presolved-by (some j) a k n t q g e = differ e (λ u. omega (arith, u))
+presolved-by none (definition.infeasible c) k n t q g e = differ e (λ u. omega (arith, u))
+presolved-by none (definition.done x) k n t q g e = record { reduced = x; accepted = refl; is = refl; values = e }
+
+-- the model that an outcome says stands in the slices
+abbrev inSlices : Model → Results → Reduced → Outcome → Reduced
+inSlices M b d (refused k) = d
+inSlices M b d (infeasible k) = d
+inSlices M b d (presolved k n t q g) = reducedIn M b k n t q g
+
+module _ {M : Model} {b b′ : Results} {x x′ : Working} {z : Answer} (p : Promise M b x z b′ x′) where
+  abbrev table : Option ℕ
+  table = refusal M (lengths b x)
+
+  -- ---- DEMAND 1: a refusal is given exactly where the table has it, and writes nothing
+  pub refused-exactly : (k : ℕ) → (answerIs z ≡ refused k) ↔ (table ≡ some k)
+  refused-exactly k = ((λ e. refused-by table (presolve M) k (sym (p .answer) ∙ e)), (λ e. p .answer ∙ refused-of table (presolve M) k e))
+
+  pub refusal-writes-nothing : (k : ℕ) → answerIs z ≡ refused k → (b′ ≡ b) × (x′ ≡ x)
+  unfolding resultsAfter workingAfter
+  refusal-writes-nothing k e =
+      let r = refused-by table (presolve M) k (sym (p .answer) ∙ e) in
+      (p .results ∙ ap (λ (o : Option ℕ). resultsAfter o (presolve M) b) r, p .working ∙ ap (λ (o : Option ℕ). workingAfter o x) r)
+
+  -- an accepted call, infeasible included, leaves zeros throughout in the working slices
+  pub zeros-after : table ≡ none → x′ ≡ working (replicate (length (x .floats)) 0f) (replicate (length (x .numbers)) 0) (replicate (length (x .adjacency)) 0)
+  unfolding workingAfter
+  zeros-after e = p .working ∙ ap (λ (o : Option ℕ). workingAfter o x) e
+
+  -- ---- DEMAND 2, infeasible: exactly where the definition says so, with its counts, and the result slices stay as they were
+  pub infeasible-exactly : (k : Counts) → (answerIs z ≡ infeasible k) ↔ ((table ≡ none) × (presolve M ≡ definition.infeasible k))
+  infeasible-exactly k = ((λ e. infeasible-by table (presolve M) k (sym (p .answer) ∙ e)), (λ e. p .answer ∙ infeasible-of table (presolve M) k e))
+
+  pub infeasible-leaves : (k : Counts) → answerIs z ≡ infeasible k → b′ ≡ b
+  unfolding resultsAfter
+  infeasible-leaves k e =
+      let r = infeasible-by table (presolve M) k (sym (p .answer) ∙ e) in
+      p .results ∙ ap (λ (o : Option ℕ). resultsAfter o (presolve M) b) (r .0) ∙ ap (λ (a : definition.Answer). resultsAfter none a b) (r .1)
+
+  -- at most 30 waves
+  pub waves-infeasible : M .params ≡ params → (k : Counts) → answerIs z ≡ infeasible k → k .passes ≤ 30
+  waves-infeasible s k e =
+      let r = infeasible-by table (presolve M) k (sym (p .answer) ∙ e) in
+      let l = kept.waves-bounded-infeasible M k (r .1) in
+      let y : maxWaves (M .params) ≡ 30 = ap maxWaves s ∙ kept.thirty in
+      omega (arith, l, y)
+
+  -- ---- DEMAND 3, infeasible: on a farm model with dual fixing off and nothing rewritten there is no point
+  pub no-point : M .params ≡ params → Farm M → M .mode ≡ 1 → (k : Counts) → answerIs z ≡ infeasible k → k .coeffsTightened ≡ 0 → (y : ℕ → ℤ) → Point M y → ⊥
+  no-point s f one k e =
+      let r = infeasible-by table (presolve M) k (sym (p .answer) ∙ e) in
+      subst (Exact M) (r .1) (points-kept M (record { shape = accepted-shaped M (lengths b x) (r .0); farm = f }) one s)
+
+  -- ---- a model
+  module _ {k : Counts} {n t q : ℕ} {g : Bool} (e : answerIs z ≡ presolved k n t q g) where
+    found : Modelled table (presolve M) k n t q g
+    found = presolved-by table (presolve M) k n t q g (sym (p .answer) ∙ e)
+
+    -- DEMAND 2: what stands in the used fronts of the result slices is the definition's answer
+    abbrev pub model : Reduced
+    model = reducedIn M b′ k n t q g
+
+    pub in-slices : presolve M ≡ definition.done model
+    unfolding resultsAfter
+    in-slices =
+        let a = found .reduced in
+        let s = accepted-shaped M (lengths b x) (found .accepted) in
+        let l = kept.bounds-lengths M a (found .is) in
+        let w : b′ ≡ written a b = p .results ∙ ap (λ (o : Option ℕ). resultsAfter o (presolve M) b) (found .accepted) ∙ ap (λ (y : definition.Answer). resultsAfter none y b) (found .is) in
+        let h = reduced-in M a b (l .0) (l .1 ∙ s .uppers) in
+        found .is ∙ ap definition.done (sym (ap (λ (c : Results). reducedIn M c k n t q g) w ∙ sym (ap (inSlices M (written a b) a) (found .values)) ∙ h))
+
+    pub waves-run : M .params ≡ params → k .passes ≤ 30
+    unfolding reducedIn
+    waves-run s =
+        let l = kept.waves-bounded M model in-slices in
+        let y : maxWaves (M .params) ≡ 30 = ap maxWaves s ∙ kept.thirty in
+        omega (arith, l, y)
+
+    -- DEMAND 3: no row is lost. What became of row r: trivially true as handed in, emitted unchanged, dropped and kept, or rewritten and kept
+    pub row-fate : (r : ℕ) → r < length (M .rhs) → Fate M r (entriesFrom b′ n 0) (take q (b′ .kept))
+    unfolding reducedIn
+    row-fate = kept.fate M model in-slices
+
+    pub no-other-row : (r : ℕ) → length (M .rhs) ≤ r → (entriesOf r (entriesFrom b′ n 0) ≡ []) × (occurs r (take q (b′ .kept)) ≡ 0)
+    unfolding reducedIn
+    no-other-row = kept.none-beyond M model in-slices
+
+    -- the first count is the number of rows with no emitted entry
+    pub rows-dropped : k .rowsDropped ≡ countBelow (length (M .rhs)) (noEntry (entriesFrom b′ n 0))
+    unfolding reducedIn
+    rows-dropped = kept.dropped-count M model in-slices
+
+    -- a variable that is not an integer one keeps its given bounds
+    pub bounds-given : (v : ℕ) → isInt M v ≡ false → (at (take (length (M .lower)) (b′ .lower)) v ≡ at (M .lower) v) × (at (take (length (M .lower)) (b′ .upper)) v ≡ at (M .upper) v)
+    unfolding reducedIn
+    bounds-given = kept.bounds-given M model in-slices
+
+    -- on a farm model with dual fixing off and nothing rewritten the reduced model is of whole numbers, and has exactly the input's points
+    pub same-points : M .params ≡ params → Farm M → M .mode ≡ 1 → k .coeffsTightened ≡ 0 → WholeReduced M model × ((y : ℕ → ℤ) → MeetsReduced M model y ↔ Point M y)
+    unfolding reducedIn
+    same-points s f one =
+        subst (Exact M) in-slices (points-kept M (record { shape = accepted-shaped M (lengths b x) (found .accepted); farm = f }) one s)

@@ -1,0 +1,2 @@
+-- presolve up to its settled rows.
+pub mod Reducing

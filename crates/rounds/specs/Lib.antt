@@ -1,0 +1,3 @@
+-- The rounds on the slices.
+pub mod After
+pub mod Rounding
