@@ -1,0 +1,7 @@
+-- What is printed for a file, and the laws that the code's promises rest on.
+pub mod Whole
+pub mod Fronts
+pub mod Called
+pub mod Small
+pub mod Front
+pub mod Fitting
