@@ -1,8 +1,6 @@
 // A model as a call hands it in, and an answer as it comes back, both flat.
-use crate::presolve::{presolve, Mode};
-use crate::{noted, take_rows, ComparisonOp, CsVec, VarDomain};
 
-#[derive(Clone, Debug)]
+#[derive(Clone, Debug, Default)]
 pub struct Model {
     pub obj: Vec<f64>,
     pub lower: Vec<f64>,
@@ -16,6 +14,115 @@ pub struct Model {
     pub mode: u8,
     pub feas: f64,
     pub int_tol: f64,
+}
+
+pub const INTEGER: u8 = 0;
+pub const REAL: u8 = 1;
+pub const BOOLEAN: u8 = 2;
+pub const EQ: u8 = 0;
+pub const LE: u8 = 1;
+pub const GE: u8 = 2;
+
+impl Model {
+    // No variables and no rows yet.
+    pub fn new(mode: u8, feas: f64, int_tol: f64) -> Self {
+        Model { starts: vec![0], mode, feas, int_tol, ..Model::default() }
+    }
+    pub fn vars(&self) -> usize {
+        self.obj.len()
+    }
+    pub fn rows(&self) -> usize {
+        self.rhs.len()
+    }
+    pub fn terms(&self) -> usize {
+        self.index.len()
+    }
+    pub fn var(&mut self, domain: u8, lower: f64, upper: f64, obj: f64) -> usize {
+        self.domain.push(domain);
+        self.lower.push(lower);
+        self.upper.push(upper);
+        self.obj.push(obj);
+        self.obj.len() - 1
+    }
+    // Terms with rising indices.
+    pub fn row(&mut self, terms: &[(usize, f64)], cmp: u8, rhs: f64) {
+        for &(v, a) in terms {
+            self.index.push(v);
+            self.coeff.push(a);
+        }
+        self.starts.push(self.index.len());
+        self.cmp.push(cmp);
+        self.rhs.push(rhs);
+    }
+    // The same, from terms in any order; of twins the first stays.
+    pub fn row_of(&mut self, terms: &[(usize, f64)], cmp: u8, rhs: f64) {
+        let mut t = terms.to_vec();
+        t.sort_by_key(|x| x.0);
+        t.dedup_by_key(|x| x.0);
+        self.row(&t, cmp, rhs);
+    }
+    pub fn row_terms(&self, r: usize) -> Vec<(usize, f64)> {
+        (self.starts[r]..self.starts[r + 1]).map(|t| (self.index[t], self.coeff[t])).collect()
+    }
+    pub fn is_farm(&self) -> bool {
+        let whole = |x: f64, most: f64| x.fract() == 0.0 && x.abs() <= most;
+        self.mode > 0
+            && self.domain.iter().all(|&d| d != REAL)
+            && self.lower.iter().chain(&self.upper).all(|&x| whole(x, 1048576.0))
+            && self.coeff.iter().all(|&x| whole(x, 32768.0))
+            && self.rhs.iter().all(|&x| whole(x, 1099511627776.0))
+            && self.starts.windows(2).all(|w| w[1] - w[0] <= 256)
+            && self.feas <= 0.01
+            && self.int_tol <= 0.01
+    }
+
+    // As text, floats by their bits with the decimal beside, for models that are saved.
+    pub fn to_text(&self) -> String {
+        let f = |x: f64| format!("{:016x} ({:e})", x.to_bits(), x);
+        let mut s = format!("model mode {} feas {} int_tol {}\n", self.mode, f(self.feas), f(self.int_tol));
+        for v in 0..self.vars() {
+            s += &format!("var domain {} lower {} upper {} obj {}\n", self.domain[v], f(self.lower[v]), f(self.upper[v]), f(self.obj[v]));
+        }
+        for r in 0..self.rows() {
+            s += &format!("row cmp {} rhs {}\n", self.cmp[r], f(self.rhs[r]));
+            for (v, a) in self.row_terms(r) {
+                s += &format!("term {} {}\n", v, f(a));
+            }
+        }
+        s
+    }
+    pub fn from_text(text: &str) -> Self {
+        let mut m = Model::new(0, 0.0, 0.0);
+        let mut open = false;
+        for line in text.lines() {
+            let w: Vec<&str> = line.split_whitespace().filter(|w| !w.starts_with('(')).collect();
+            let bits = |i: usize| f64::from_bits(u64::from_str_radix(w[i], 16).expect("16 hexadecimal digits"));
+            let number = |i: usize| w[i].parse::<usize>().expect("a number");
+            match w.first().copied() {
+                Some("model") => {
+                    m.mode = number(2) as u8;
+                    m.feas = bits(4);
+                    m.int_tol = bits(6);
+                }
+                Some("var") => {
+                    m.var(number(2) as u8, bits(4), bits(6), bits(8));
+                }
+                Some("row") => {
+                    m.cmp.push(number(2) as u8);
+                    m.rhs.push(bits(4));
+                    m.starts.push(m.index.len());
+                    open = true;
+                }
+                Some("term") if open => {
+                    m.index.push(number(1));
+                    m.coeff.push(bits(2));
+                    *m.starts.last_mut().unwrap() += 1;
+                }
+                _ => {}
+            }
+        }
+        m
+    }
 }
 
 #[derive(Clone, Debug)]
@@ -42,46 +149,4 @@ pub struct Reduced {
 pub enum Answer {
     Infeasible([usize; 5]),
     Done(Reduced),
-}
-
-// The reference's answer.
-pub fn reference(m: &Model) -> Answer {
-    let rows: Vec<(CsVec, ComparisonOp, f64)> = (0..m.rhs.len())
-        .map(|r| {
-            let span = m.starts[r]..m.starts[r + 1];
-            let op = [ComparisonOp::Eq, ComparisonOp::Le, ComparisonOp::Ge][m.cmp[r] as usize];
-            (CsVec::new(m.index[span.clone()].to_vec(), m.coeff[span].to_vec()), op, m.rhs[r])
-        })
-        .collect();
-    let domains: Vec<VarDomain> = m.domain.iter().map(|&d| [VarDomain::Integer, VarDomain::Real, VarDomain::Boolean][d as usize]).collect();
-    let mode = if m.mode == 0 { Mode::Lp } else { Mode::Mip };
-    take_rows();
-    let result = presolve(&m.obj, &m.lower, &m.upper, &rows, &domains, mode, m.feas, m.int_tol, m.mode == 2);
-    let (out, kept) = take_rows();
-    let p = match result {
-        Err(_) => return Answer::Infeasible(noted()),
-        Ok(p) => p,
-    };
-    assert_eq!(out.len(), p.constraints.len());
-    assert_eq!(kept.len(), p.validation_rows.len());
-    let mut emitted = Vec::new();
-    let mut terms = Vec::new();
-    for (&(r, rewritten), (c, _, b)) in out.iter().zip(&p.constraints) {
-        if rewritten {
-            emitted.push(Emit { row: r, rewritten, rhs: *b, from: terms.len(), upto: terms.len() + c.nnz() });
-            terms.extend(c.iter().map(|(v, &a)| (v, a)));
-        } else {
-            emitted.push(Emit { row: r, rewritten, rhs: *b, from: m.starts[r], upto: m.starts[r + 1] });
-        }
-    }
-    let s = p.stats;
-    Answer::Done(Reduced {
-        counts: [s.rows_dropped, s.bounds_tightened, s.vars_fixed, s.coeffs_tightened, s.passes],
-        lower: p.var_mins,
-        upper: p.var_maxs,
-        emitted,
-        terms,
-        kept,
-        flag: p.reduced,
-    })
 }

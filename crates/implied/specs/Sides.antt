@@ -1,6 +1,7 @@
 -- The implied bounds of one term, by the ways through the code; and that they keep the invariant and change no row.
-use Prim.Native.Nat.{ℕ, _+_, _-_}
-use mathlib.Core.Path.{_≡_, refl, ap, sym, _∙_}
+use Prim.Native.Nat.{ℕ, _+_, _-_, _<_}
+use native.Mathlib.Omega.{arith}
+use mathlib.Core.Path.{_≡_, refl, ap, sym, _∙_, subst}
 use mathlib.Core.Bool.{Bool, true, false}
 use mathlib.Core.List.{List}
 use mathlib.Core.Option.{Option, none, some}
@@ -119,9 +120,6 @@ module _ {A : Type 0} {g : Work → A} (b : Blind g) (M : Model) (upper : Bool) 
   unfolding sideStep
   leaves-side = either (Leaves g w) _ (λ e. leaves-rest (restOf (side .sum) (side .ninf) c)) (λ e. same refl)
 
-pub side-keeps : {P : Model → Type 0} {s : Shape} (upper : Bool) (r : ℕ) (row : Row) (side : Side) (c : Float) (t : Term) → KeepsStep P s (λ M. sideStep M upper r row side c t)
-side-keeps upper r row side c t = record { keeps = λ M k w p q i. inv-side upper r row side c t w i }
-
 pub inv-term : {M : Model} {k : ℕ} (r : ℕ) (row : Row) (act : Activity) (t : Term) (w : Work) → Inv M k w → InvStep M k (impliedTerm M r row act t w)
 unfolding both
 inv-term {M} {k} r row act t w i =
@@ -172,27 +170,85 @@ module _ {P : Model → Type 0} {s : Shape} {f : Floats} {n : Numbers} (upper : 
     pub side-sum : {f′ : Floats} {n′ : Numbers} {y : code.Step} {rest : Float} → z ≡ Sum rest → Tries P s f n f′ n′ y (λ M. fromRest M upper r row side c t (some rest)) → Tries P s f n f′ n′ y (λ M. sideStep M upper r row side c t)
     side-sum u k = tries-as (λ M o j w p d h i. side-is M upper r row side c t z w e g ∙ ap (λ (y : Rest). fromRest M upper r row side c t (restIs y) w) u) k
 
--- ---- implied_term
-module _ {f : Floats} (r : ℕ) (x : Limits) (act : Activity) (v : ℕ) (a : Float) {lo hi cmin cmax : Float} {above below : Side} (e₁ : lo ≡ getD (f .wlo) v nan) (e₂ : hi ≡ getD (f .whi) v nan)
-    (e₃ : cmin ≡ rangeMin a lo hi) (e₄ : cmax ≡ rangeMax a lo hi) (e₅ : above ≡ hiOf (bare x) act) (e₆ : below ≡ loOf (bare x) act) where
-  term-is : {M : Model} {n : Numbers} {o : List ℕ} {w : Work} → Shows M f n o w → impliedTerm M r (bare x) act (term v a) w ≡ both M r (bare x) above below cmin cmax (term v a) w
+-- ---- implied_term: its two halves, as turns of a loop
+unfoldable pub halfStep : Model → Bool → ℕ → Row → Activity → Float → Float → Term → Work → Step
+halfStep M upper r row act cmin cmax t w = sideStep M upper r row (choose upper (hiOf row act) (loOf row act)) (choose upper cmin cmax) t w
+
+-- what is done before a half
+unfoldable pub doneBefore : Model → Bool → ℕ → Row → Activity → Float → Float → Term → Work → Step
+doneBefore M upper r row act cmin cmax t w = choose upper (next w) (halfStep M true r row act cmin cmax t w)
+
+halves-are : (M : Model) (r : ℕ) (row : Row) (act : Activity) (cmin cmax : Float) (t : Term) (w : Work) → both M r row (hiOf row act) (loOf row act) cmin cmax t w
+    ≡ (doneBefore M false r row act cmin cmax t w >>= λ w1. halfStep M false r row act cmin cmax t w1)
+unfolding both halfStep doneBefore choose
+halves-are M r row act cmin cmax t w = refl
+
+first-is : (M : Model) (r : ℕ) (row : Row) (act : Activity) (cmin cmax : Float) (t : Term) (w : Work) → doneBefore M false r row act cmin cmax t w
+    ≡ (doneBefore M true r row act cmin cmax t w >>= λ w1. halfStep M true r row act cmin cmax t w1)
+unfolding doneBefore choose
+first-is M r row act cmin cmax t w = refl
+
+pub before-keeps : {P : Model → Type 0} {s : Shape} (upper : Bool) (r : ℕ) (row : Row) (act : Activity) (cmin cmax : Float) (t : Term) → KeepsStep P s (λ M. doneBefore M upper r row act cmin cmax t)
+unfolding doneBefore halfStep
+before-keeps upper r row act cmin cmax t =
+    record { keeps = λ M k w p q i. either (InvStep M k) upper (λ e. goes i) (λ e. inv-side true r row _ _ t w i) }
+
+module _ {P : Model → Type 0} {s : Shape} {f f′ : Floats} {n n′ : Numbers} {z : code.Step} where
+  pub half-is : (upper : Bool) (r : ℕ) (x : Limits) (act : Activity) (cmin cmax : Float) (t : Term) {side : Side} {c : Float} → side ≡ choose upper (hiOf (bare x) act) (loOf (bare x) act) → c ≡ choose upper cmin cmax
+      → Tries P s f n f′ n′ z (λ M. sideStep M upper r (bare x) side c t) → Tries P s f n f′ n′ z (λ M. halfStep M upper r (bare x) act cmin cmax t)
+  unfolding halfStep
+  half-is upper r x act cmin cmax t {side} {c} e g h =
+      tries-as
+      (λ M o k w p d y i.
+      ap (λ (u : Side). sideStep M upper r (bare x) u (choose upper cmin cmax) t w) (sym e) ∙ ap (λ (u : Float). sideStep M upper r (bare x) side u t w) (sym g)) h
+
+-- the turns that come after a half
+unfoldable pub turnsLeft : Bool → ℕ
+turnsLeft true = 1
+turnsLeft false = 0
+
+pub turns-less : {upper : Bool} → upper ≡ true → turnsLeft false < turnsLeft upper
+unfolding turnsLeft
+turns-less e = subst (λ (b : Bool). turnsLeft false < turnsLeft b) (sym e) (omega arith)
+
+pub before-start : {P : Model → Type 0} {s : Shape} {f : Floats} {n : Numbers} (r : ℕ) (row : Row) (act : Activity) (cmin cmax : Float) (t : Term) → Tries P s f n f n Next (λ M. doneBefore M true r row act cmin cmax t)
+unfolding doneBefore choose
+before-start r row act cmin cmax t = record { does = λ M o k w p d h i. went-by refl h }
+
+module _ {P : Model → Type 0} {s : Shape} {f₀ f f₁ : Floats} {n₀ n n₁ : Numbers} {z : code.Step} (r : ℕ) (row : Row) (act : Activity) (cmin cmax : Float) (t : Term) where
+  pub first-half : {upper : Bool} → upper ≡ true → Tries P s f₀ n₀ f n Next (λ M. doneBefore M upper r row act cmin cmax t) → Tries P s f n f₁ n₁ z (λ M. halfStep M upper r row act cmin cmax t)
+      → Tries P s f₀ n₀ f₁ n₁ z (λ M. doneBefore M false r row act cmin cmax t)
+  first-half {upper} e b h =
+      tries-as
+      (λ M o k w p d y i.
+      first-is M r row act cmin cmax t w ∙ ap (λ (u : Bool). doneBefore M u r row act cmin cmax t w >>= λ w1. halfStep M u r row act cmin cmax t w1) (sym e))
+      (tries-then b (before-keeps upper r row act cmin cmax t) h)
+
+module _ {f : Floats} (r : ℕ) (x : Limits) (act : Activity) (v : ℕ) (a : Float) {lo hi cmin cmax : Float} (e₁ : lo ≡ getD (f .wlo) v nan) (e₂ : hi ≡ getD (f .whi) v nan)
+    (e₃ : cmin ≡ rangeMin a lo hi) (e₄ : cmax ≡ rangeMax a lo hi) where
+  term-is : {M : Model} {n : Numbers} {o : List ℕ} {w : Work} → Shows M f n o w → impliedTerm M r (bare x) act (term v a) w
+      ≡ (doneBefore M false r (bare x) act cmin cmax (term v a) w >>= λ w1. halfStep M false r (bare x) act cmin cmax (term v a) w1)
   term-is {M} {n} {o} {w} h =
       let b₁ : rangeMin a (at (w .wlo) v) (at (w .whi) v) ≡ cmin = cc (wlo-is v h e₁, whi-is v h e₂, e₃) in
       let b₂ : rangeMax a (at (w .wlo) v) (at (w .whi) v) ≡ cmax = cc (wlo-is v h e₁, whi-is v h e₂, e₄) in
       term-of M r (bare x) act (term v a) w
       ∙ ap (λ (y : Float). both M r (bare x) (hiOf (bare x) act) (loOf (bare x) act) y (rangeMax a (at (w .wlo) v) (at (w .whi) v)) (term v a) w) b₁
       ∙ ap (λ (y : Float). both M r (bare x) (hiOf (bare x) act) (loOf (bare x) act) cmin y (term v a) w) b₂
-      ∙ ap (λ (y : Side). both M r (bare x) y (loOf (bare x) act) cmin cmax (term v a) w) (sym e₅)
-      ∙ ap (λ (y : Side). both M r (bare x) above y cmin cmax (term v a) w) (sym e₆)
+      ∙ halves-are M r (bare x) act cmin cmax (term v a) w
 
-module _ {P : Model → Type 0} {s : Shape} {f : Floats} {n : Numbers} (r : ℕ) (x : Limits) (act : Activity) (v : ℕ) (a : Float) {lo hi cmin cmax : Float} {above below : Side} (e₁ : lo ≡ getD (f .wlo) v nan) (e₂ : hi ≡ getD (f .whi) v nan)
-    (e₃ : cmin ≡ rangeMin a lo hi) (e₄ : cmax ≡ rangeMax a lo hi) (e₅ : above ≡ hiOf (bare x) act) (e₆ : below ≡ loOf (bare x) act) where
-  module _ {f₁ : Floats} {n₁ : Numbers} where
-    pub term-stop : Tries P s f n f₁ n₁ Stop (λ M. sideStep M true r (bare x) above cmin (term v a)) → Tries P s f n f₁ n₁ Stop (λ M. impliedTerm M r (bare x) act (term v a))
-    unfolding both
-    term-stop t = tries-as (λ M o k w p d h i. term-is r x act v a e₁ e₂ e₃ e₄ e₅ e₆ h) (tries-stop (λ M. sideStep M false r (bare x) below cmax (term v a)) t)
+module _ {P : Model → Type 0} {s : Shape} {f₀ f f₁ : Floats} {n₀ n n₁ : Numbers} (r : ℕ) (x : Limits) (act : Activity) (v : ℕ) (a : Float) {lo hi cmin cmax : Float} (e₁ : lo ≡ getD (f₀ .wlo) v nan) (e₂ : hi ≡ getD (f₀ .whi) v nan)
+    (e₃ : cmin ≡ rangeMin a lo hi) (e₄ : cmax ≡ rangeMax a lo hi) where
+  pub term-end : {upper : Bool} {z : code.Step} → upper ≡ false → Tries P s f₀ n₀ f n Next (λ M. doneBefore M upper r (bare x) act cmin cmax (term v a))
+      → Tries P s f n f₁ n₁ z (λ M. halfStep M upper r (bare x) act cmin cmax (term v a)) → Tries P s f₀ n₀ f₁ n₁ z (λ M. impliedTerm M r (bare x) act (term v a))
+  term-end {upper} e b h =
+      tries-as
+      (λ M o k w p d y i.
+      term-is r x act v a e₁ e₂ e₃ e₄ y
+      ∙ ap (λ (u : Bool). doneBefore M u r (bare x) act cmin cmax (term v a) w >>= λ w1. halfStep M u r (bare x) act cmin cmax (term v a) w1) (sym e))
+      (tries-then b (before-keeps upper r (bare x) act cmin cmax (term v a)) h)
 
-    pub term-both : {f₂ : Floats} {n₂ : Numbers} {z : code.Step} → Tries P s f n f₁ n₁ Next (λ M. sideStep M true r (bare x) above cmin (term v a)) → Tries P s f₁ n₁ f₂ n₂ z (λ M. sideStep M false r (bare x) below cmax (term v a))
-        → Tries P s f n f₂ n₂ z (λ M. impliedTerm M r (bare x) act (term v a))
-    unfolding both
-    term-both t u = tries-as (λ M o k w p d h i. term-is r x act v a e₁ e₂ e₃ e₄ e₅ e₆ h) (tries-then t (side-keeps true r (bare x) above cmin (term v a)) u)
+  pub term-stop : (upper : Bool) → Tries P s f₀ n₀ f n Next (λ M. doneBefore M upper r (bare x) act cmin cmax (term v a)) → Tries P s f n f₁ n₁ Stop (λ M. halfStep M upper r (bare x) act cmin cmax (term v a))
+      → Tries P s f₀ n₀ f₁ n₁ Stop (λ M. impliedTerm M r (bare x) act (term v a))
+  term-stop true b h =
+      tries-as (λ M o k w p d y i. term-is r x act v a e₁ e₂ e₃ e₄ y) (tries-stop (λ M. halfStep M false r (bare x) act cmin cmax (term v a)) (first-half r (bare x) act cmin cmax (term v a) refl b h))
+  term-stop false b h = term-end refl b h

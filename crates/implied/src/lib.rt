@@ -1,16 +1,19 @@
 // `primal_wave` of src/presolve/work.rs, changed: the implied bounds of each term of a row, from each
 // side of it.
 ghost use Prim.Native.Nat.{_<_};
+ghost use mathlib.Core.Path.{_≡_};
 ghost use mathlib.Core.Bool.{true, false};
 ghost use mathlib.Core.Option.{some};
+ghost use Rattle.floats.specs.Num.{choose};
 ghost use Rattle.tolerances.specs.Tol.{term};
 ghost use Rattle.definition.specs.Implied as definition;
 ghost use Rattle.space.specs.Store.{floatsOf, numbersOf, HoldsF, HoldsN};
 ghost use Rattle.formulas.specs.Bare.{bare};
+ghost use Rattle.formulas.specs.Implied.{hiOf, loOf};
 ghost use Rattle.view.specs.Acts.{Ready, Tries};
 ghost use Rattle.readers.specs.Reading.{rowOf, Alive};
 ghost use Rattle.rows.specs.Knowing.{Moves};
-ghost use Rattle.implied.specs.Sides.{fromRest, sideStep};
+ghost use Rattle.implied.specs.Sides.{fromRest, sideStep, halfStep};
 use definition::Activity;
 use formulas::Limits;
 use formulas::Rest;
@@ -96,7 +99,53 @@ fn implied_side(
     Step::Next
 }
 
-// = impliedTerm: both parts of the term are taken before either side
+// The side that a half looks at, and the term's part at its corner.
+fn side_of(upper: bool, x: Limits, act: Activity) -> Side
+    ensures { λ z. ⌜ z ≡ choose upper (hiOf (bare x) act) (loOf (bare x) act) ⌝ }
+{
+    if upper {
+        return formulas::hi_of(x, act);
+    }
+    formulas::lo_of(x, act)
+}
+
+fn part_of(upper: bool, cmin: f64, cmax: f64) -> f64
+    ensures { λ z. ⌜ z ≡ choose upper cmin cmax ⌝ }
+{
+    if upper {
+        return cmin;
+    }
+    cmax
+}
+
+// = a half of impliedTerm, by its side
+fn implied_half(
+    domain: &[u8],
+    starts: &[usize],
+    adj: &[usize],
+    w: &mut [f64],
+    m: &mut [usize],
+    s: Shape,
+    r: usize,
+    x: Limits,
+    act: Activity,
+    upper: bool,
+    cmin: f64,
+    cmax: f64,
+    v: usize,
+    a: f64,
+) -> Step
+    requires { ⌜ (r < s .rows) × (v < s .vars) × HoldsF s (now w) × HoldsN s (now m) ⌝ }
+    requires { ⌜ Ready (Moves (now domain) (now starts) (now adj)) s (floatsOf s (now w)) (numbersOf s (now m)) ⌝ }
+    ensures { λ z. ⌜ Tries (Moves (now (domain .entry)) (now (starts .entry)) (now (adj .entry))) s (floatsOf s (now (w .entry))) (numbersOf s (now (m .entry))) (floatsOf s (now (w .exit))) (numbersOf s (now (m .exit))) z (λ M. halfStep M upper r (bare x) act cmin cmax (term v a)) ⌝ }
+{
+    let side = side_of(upper, x, act);
+    let c = part_of(upper, cmin, cmax);
+    implied_side(domain, starts, adj, w, m, s, r, x, side, upper, c, v, a)
+}
+
+// = impliedTerm: both parts of the term are taken before either side. The sides are a loop's two turns,
+// so that the code of a side stands once and is compiled into its caller.
 fn implied_term(
     domain: &[u8],
     starts: &[usize],
@@ -118,11 +167,35 @@ fn implied_term(
     let hi = space::get_whi(w, s, v);
     let cmin = formulas::range_min(a, lo, hi);
     let cmax = formulas::range_max(a, lo, hi);
-    let above = formulas::hi_of(x, act);
-    let below = formulas::lo_of(x, act);
-    match implied_side(domain, starts, adj, w, m, s, r, x, above, true, cmin, v, a) {
-        Step::Stop => Step::Stop,
-        Step::Next => implied_side(domain, starts, adj, w, m, s, r, x, below, false, cmax, v, a),
+    let mut upper = true;
+    loop {
+        match implied_half(
+            domain,
+            starts,
+            adj,
+            w,
+            m,
+            s,
+            r,
+            x,
+            act,
+            upper,
+            cmin,
+            cmax,
+            v,
+            a,
+        ) {
+            Step::Stop => {
+                return Step::Stop;
+            }
+            Step::Next => {
+                if upper {
+                    upper = false;
+                } else {
+                    return Step::Next;
+                }
+            }
+        }
     }
 }
 

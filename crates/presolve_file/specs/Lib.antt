@@ -5,3 +5,4 @@ pub mod Called
 pub mod Small
 pub mod Front
 pub mod Fitting
+pub mod Numbers

@@ -18,7 +18,8 @@ ghost use Rattle.presolve_file.specs.Fitting.{Part, fitting};
 // after these bytes changes no answer (`first-bytes-text`).
 pub const FILE_BYTES: usize = 9750;
 
-// More than any text has.
+// More than any text has: with 128 bounds, 128 rewritten rows, 512 terms, 128 kept rows, numbers of three
+// digits and counts of twenty it comes to 25,015.
 pub const TEXT_BYTES: usize = 32768;
 
 // Presolves a model and prints the answer. The space is enough for 128 variables, 128 rows and 512

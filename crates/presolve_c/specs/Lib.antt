@@ -1,0 +1,4 @@
+-- presolve for callers in C and Rust.
+pub mod Face
+pub mod Codes
+pub mod Steps
