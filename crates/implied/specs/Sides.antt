@@ -211,9 +211,26 @@ pub turns-less : {upper : Bool} → upper ≡ true → turnsLeft false < turnsLe
 unfolding turnsLeft
 turns-less e = subst (λ (b : Bool). turnsLeft false < turnsLeft b) (sym e) (omega arith)
 
-pub before-start : {P : Model → Type 0} {s : Shape} {f : Floats} {n : Numbers} (r : ℕ) (row : Row) (act : Activity) (cmin cmax : Float) (t : Term) → Tries P s f n f n Next (λ M. doneBefore M true r row act cmin cmax t)
+before-start : {P : Model → Type 0} {s : Shape} {f : Floats} {n : Numbers} (r : ℕ) (row : Row) (act : Activity) (cmin cmax : Float) (t : Term) → Tries P s f n f n Next (λ M. doneBefore M true r row act cmin cmax t)
 unfolding doneBefore choose
 before-start r row act cmin cmax t = record { does = λ M o k w p d h i. went-by refl h }
+
+-- an infinite side's half does nothing
+upper-none : (M : Model) (r : ℕ) (x : Limits) (act : Activity) (cmin cmax : Float) (t : Term) (w : Work) → isFinite (x .hi) ≡ false → doneBefore M false r (bare x) act cmin cmax t w ≡ next w
+unfolding doneBefore halfStep sideStep choose
+upper-none M r x act cmin cmax t w e = no _ _ e
+
+lower-none : (M : Model) (r : ℕ) (x : Limits) (act : Activity) (cmin cmax : Float) (t : Term) (w : Work) → isFinite (x .lo) ≡ false → halfStep M false r (bare x) act cmin cmax t w ≡ next w
+unfolding halfStep sideStep choose
+lower-none M r x act cmin cmax t w e = no _ _ e
+
+module _ {P : Model → Type 0} {s : Shape} {f : Floats} {n : Numbers} (r : ℕ) (x : Limits) (act : Activity) (cmin cmax : Float) (t : Term) where
+  pub before-first : (upper : Bool) → upper ≡ isFinite (x .hi) → Tries P s f n f n Next (λ M. doneBefore M upper r (bare x) act cmin cmax t)
+  before-first true e = before-start r (bare x) act cmin cmax t
+  before-first false e = record { does = λ M o k w p d h i. went-by (upper-none M r x act cmin cmax t w (sym e)) h }
+
+  half-none : isFinite (x .lo) ≡ false → Tries P s f n f n Next (λ M. halfStep M false r (bare x) act cmin cmax t)
+  half-none e = record { does = λ M o k w p d h i. went-by (lower-none M r x act cmin cmax t w e) h }
 
 module _ {P : Model → Type 0} {s : Shape} {f₀ f f₁ : Floats} {n₀ n n₁ : Numbers} {z : code.Step} (r : ℕ) (row : Row) (act : Activity) (cmin cmax : Float) (t : Term) where
   pub first-half : {upper : Bool} → upper ≡ true → Tries P s f₀ n₀ f n Next (λ M. doneBefore M upper r row act cmin cmax t) → Tries P s f n f₁ n₁ z (λ M. halfStep M upper r row act cmin cmax t)
@@ -252,3 +269,9 @@ module _ {P : Model → Type 0} {s : Shape} {f₀ f f₁ : Floats} {n₀ n n₁ 
   term-stop true b h =
       tries-as (λ M o k w p d y i. term-is r x act v a e₁ e₂ e₃ e₄ y) (tries-stop (λ M. halfStep M false r (bare x) act cmin cmax (term v a)) (first-half r (bare x) act cmin cmax (term v a) refl b h))
   term-stop false b h = term-end refl b h
+
+module _ {P : Model → Type 0} {s : Shape} {f₀ f f₁ : Floats} {n₀ n n₁ : Numbers} (r : ℕ) (x : Limits) (act : Activity) (v : ℕ) (a : Float) {lo hi cmin cmax : Float} (e₁ : lo ≡ getD (f₀ .wlo) v nan) (e₂ : hi ≡ getD (f₀ .whi) v nan)
+    (e₃ : cmin ≡ rangeMin a lo hi) (e₄ : cmax ≡ rangeMax a lo hi) where
+  pub term-upper : {upper : Bool} {y : Bool} → upper ≡ true → y ≡ isFinite (x .lo) → y ≡ false → Tries P s f₀ n₀ f n Next (λ M. doneBefore M upper r (bare x) act cmin cmax (term v a))
+      → Tries P s f n f₁ n₁ Next (λ M. halfStep M upper r (bare x) act cmin cmax (term v a)) → Tries P s f₀ n₀ f₁ n₁ Next (λ M. impliedTerm M r (bare x) act (term v a))
+  term-upper e g i b h = term-end r x act v a e₁ e₂ e₃ e₄ refl (first-half r (bare x) act cmin cmax (term v a) e b h) (half-none r x act cmin cmax (term v a) (sym g ∙ i))

@@ -1,9 +1,10 @@
 // `primal_wave` of src/presolve/work.rs, changed: the implied bounds of each term of a row, from each
 // side of it.
-ghost use Prim.Native.Nat.{_<_};
+ghost use Prim.Native.Nat.{_+_, _-_, _<_};
 ghost use mathlib.Core.Path.{_≡_};
 ghost use mathlib.Core.Bool.{true, false};
 ghost use mathlib.Core.Option.{some};
+ghost use lib.ListN.{getD};
 ghost use Rattle.floats.specs.Num.{choose};
 ghost use Rattle.tolerances.specs.Tol.{term};
 ghost use Rattle.definition.specs.Implied as definition;
@@ -30,6 +31,7 @@ fn implied_rest(
     m: &mut [usize],
     s: Shape,
     r: usize,
+    terms: usize,
     x: Limits,
     side: Side,
     upper: bool,
@@ -40,11 +42,11 @@ fn implied_rest(
 ) -> Step
     requires { ⌜ (r < s .rows) × (v < s .vars) × HoldsF s (now w) × HoldsN s (now m) ⌝ }
     requires { ⌜ Ready (Moves (now domain) (now starts) (now adj)) s (floatsOf s (now w)) (numbersOf s (now m)) ⌝ }
+    requires { ⌜ terms ≡ getD (now starts) (r + 1) 0 - getD (now starts) r 0 ⌝ }
     ensures { λ z. ⌜ Tries (Moves (now (domain .entry)) (now (starts .entry)) (now (adj .entry))) s (floatsOf s (now (w .entry))) (numbersOf s (now (m .entry))) (floatsOf s (now (w .exit))) (numbersOf s (now (m .exit))) z (λ M. fromRest M upper r (bare x) side c (term v a) (some rest)) ⌝ }
 {
     let q = formulas::quotient(side, rest, a);
-    let n = rows::written_terms(starts, r);
-    let relax = formulas::relaxation(s.feas, n, x, side, c, rest, a);
+    let relax = formulas::relaxation(s.feas, terms, x, side, c, rest, a);
     if formulas::bounds_above(upper, a) {
         return bounds::tighten_upper(domain, adj, w, m, s, v, q, relax);
     }
@@ -60,6 +62,7 @@ fn implied_side(
     m: &mut [usize],
     s: Shape,
     r: usize,
+    terms: usize,
     x: Limits,
     side: Side,
     upper: bool,
@@ -69,6 +72,7 @@ fn implied_side(
 ) -> Step
     requires { ⌜ (r < s .rows) × (v < s .vars) × HoldsF s (now w) × HoldsN s (now m) ⌝ }
     requires { ⌜ Ready (Moves (now domain) (now starts) (now adj)) s (floatsOf s (now w)) (numbersOf s (now m)) ⌝ }
+    requires { ⌜ terms ≡ getD (now starts) (r + 1) 0 - getD (now starts) r 0 ⌝ }
     ensures { λ z. ⌜ Tries (Moves (now (domain .entry)) (now (starts .entry)) (now (adj .entry))) s (floatsOf s (now (w .entry))) (numbersOf s (now (m .entry))) (floatsOf s (now (w .exit))) (numbersOf s (now (m .exit))) z (λ M. sideStep M upper r (bare x) side c (term v a)) ⌝ }
 {
     if floats::is_finite(side.bound) {
@@ -82,6 +86,7 @@ fn implied_side(
                     m,
                     s,
                     r,
+                    terms,
                     x,
                     side,
                     upper,
@@ -127,6 +132,7 @@ fn implied_half(
     m: &mut [usize],
     s: Shape,
     r: usize,
+    terms: usize,
     x: Limits,
     act: Activity,
     upper: bool,
@@ -137,15 +143,31 @@ fn implied_half(
 ) -> Step
     requires { ⌜ (r < s .rows) × (v < s .vars) × HoldsF s (now w) × HoldsN s (now m) ⌝ }
     requires { ⌜ Ready (Moves (now domain) (now starts) (now adj)) s (floatsOf s (now w)) (numbersOf s (now m)) ⌝ }
+    requires { ⌜ terms ≡ getD (now starts) (r + 1) 0 - getD (now starts) r 0 ⌝ }
     ensures { λ z. ⌜ Tries (Moves (now (domain .entry)) (now (starts .entry)) (now (adj .entry))) s (floatsOf s (now (w .entry))) (numbersOf s (now (m .entry))) (floatsOf s (now (w .exit))) (numbersOf s (now (m .exit))) z (λ M. halfStep M upper r (bare x) act cmin cmax (term v a)) ⌝ }
 {
     let side = side_of(upper, x, act);
     let c = part_of(upper, cmin, cmax);
-    implied_side(domain, starts, adj, w, m, s, r, x, side, upper, c, v, a)
+    implied_side(
+        domain,
+        starts,
+        adj,
+        w,
+        m,
+        s,
+        r,
+        terms,
+        x,
+        side,
+        upper,
+        c,
+        v,
+        a,
+    )
 }
 
 // = impliedTerm: both parts of the term are taken before either side. The sides are a loop's two turns,
-// so that the code of a side stands once and is compiled into its caller.
+// so that the code of a side stands once and is compiled into its caller; an infinite side has no turn.
 fn implied_term(
     domain: &[u8],
     starts: &[usize],
@@ -154,6 +176,7 @@ fn implied_term(
     m: &mut [usize],
     s: Shape,
     r: usize,
+    terms: usize,
     x: Limits,
     act: Activity,
     v: usize,
@@ -161,13 +184,14 @@ fn implied_term(
 ) -> Step
     requires { ⌜ (r < s .rows) × (v < s .vars) × HoldsF s (now w) × HoldsN s (now m) ⌝ }
     requires { ⌜ Ready (Moves (now domain) (now starts) (now adj)) s (floatsOf s (now w)) (numbersOf s (now m)) ⌝ }
+    requires { ⌜ terms ≡ getD (now starts) (r + 1) 0 - getD (now starts) r 0 ⌝ }
     ensures { λ z. ⌜ Tries (Moves (now (domain .entry)) (now (starts .entry)) (now (adj .entry))) s (floatsOf s (now (w .entry))) (numbersOf s (now (m .entry))) (floatsOf s (now (w .exit))) (numbersOf s (now (m .exit))) z (λ M. definition.impliedTerm M r (bare x) act (term v a)) ⌝ }
 {
     let lo = space::get_wlo(w, s, v);
     let hi = space::get_whi(w, s, v);
     let cmin = formulas::range_min(a, lo, hi);
     let cmax = formulas::range_max(a, lo, hi);
-    let mut upper = true;
+    let mut upper = floats::is_finite(x.hi);
     loop {
         match implied_half(
             domain,
@@ -177,6 +201,7 @@ fn implied_term(
             m,
             s,
             r,
+            terms,
             x,
             act,
             upper,
@@ -190,7 +215,11 @@ fn implied_term(
             }
             Step::Next => {
                 if upper {
-                    upper = false;
+                    if floats::is_finite(x.lo) {
+                        upper = false;
+                    } else {
+                        return Step::Next;
+                    }
                 } else {
                     return Step::Next;
                 }
@@ -215,13 +244,14 @@ pub fn implied_bounds(
     ensures { λ z. ⌜ Tries (Moves (now (domain .entry)) (now (starts .entry)) (now (adj .entry))) s (floatsOf s (now (w .entry))) (numbersOf s (now (m .entry))) (floatsOf s (now (w .exit))) (numbersOf s (now (m .exit))) z (λ M w. definition.impliedBounds M r (rowOf w r) act (rowOf w r .terms) w) ⌝ }
 {
     let x = readers::limits(w, s, r);
+    let terms = rows::written_terms(starts, r);
     let a = starts[r];
     let n = space::get_len(m, s, r);
     let mut i: usize = 0;
     while i < n {
         let v = space::get_var(m, s, a + i);
         let c = space::get_coeff(w, s, a + i);
-        match implied_term(domain, starts, adj, w, m, s, r, x, act, v, c) {
+        match implied_term(domain, starts, adj, w, m, s, r, terms, x, act, v, c) {
             Step::Stop => {
                 return Step::Stop;
             }

@@ -1,7 +1,7 @@
 -- A row of two terms or more, by the ways through the code; and that it keeps the invariant.
 use Prim.Native.Nat.{ℕ, _+_, _-_, _<_}
 use mathlib.Core.Path.{_≡_, refl, ap, sym, _∙_}
-use mathlib.Core.Bool.{Bool, true, false}
+use mathlib.Core.Bool.{Bool, true, false, _||_}
 use mathlib.Core.List.{List}
 use lib.ListN.{getD}
 use Rattle.floats.specs.Num.{choose}
@@ -9,7 +9,8 @@ use Rattle.definition.specs.declared.Activity.{Activity}
 use Rattle.definition.specs.Model.{Model, Row}
 use Rattle.definition.specs.Work.{Work, Step, stop, next, noRow, dropRow}
 use Rattle.definition.specs.Activities.{activity}
-use Rattle.definition.specs.Sides.{unreachable, redundant}
+use lib.Ieee.{Float}
+use Rattle.definition.specs.Sides.{within, aboveHi, belowLo, nearMin, nearMax, unreachable, redundant}
 use Rattle.definition.specs.Forcing.{forcesMin, forcesMax, fixAll}
 use Rattle.definition.specs.Implied.{impliedBounds}
 use Rattle.definition.specs.Wave.{severalTerms}
@@ -107,6 +108,23 @@ module _ {ds ss js : List ℕ} {s : Shape} {f : Floats} {n : Numbers} (r : ℕ) 
         (λ M o k w p c h i.
         ap (λ (y : Activity). decided M r (rowOf w r) act y w) (ea .reads M o k w (moves-spans M p) c h i) ∙ no _ _ (eb .reads M o k w (moves-looks M p) c h i ∙ t) ∙ no _ _ (ed .reads M o k w (moves-looks M p) c h i ∙ v))
         u
+
+-- ---- reach_of
+module _ {tol : Float} {l : ℕ} (x : Limits) (act : Activity) where
+  pub reach-never : {a b z : Bool} → Says tol l a (λ M r. aboveHi M r (bare x) act) → Says tol l b (λ M r. belowLo M r (bare x) act) → z ≡ (a || b) → Says tol l z (λ M r. unreachable M r (bare x) act)
+  unfolding unreachable
+  reach-never {a} {b} p q e =
+      record { of = λ M r o. e ∙ ap (λ (y : Bool). y || b) (p .of M r o) ∙ ap (λ (y : Bool). aboveHi M r (bare x) act || y) (q .of M r o) }
+
+  pub reach-reduces : {a b d y z : Bool} → Says tol l a (λ M r. nearMin M r (bare x) act) → Says tol l b (λ M r. nearMax M r (bare x) act) → d ≡ within (bare x) act → y ≡ (a || b) → z ≡ (y || d)
+      → Says tol l z (λ M r. mayReduce M r (bare x) act)
+  unfolding mayReduce
+  reach-reduces {a} {b} {d} p q g e h =
+      record {
+        of = λ M r o.
+            h ∙ ap (λ (u : Bool). u || d) (e ∙ ap (λ (u : Bool). u || b) (p .of M r o) ∙ ap (λ (u : Bool). nearMin M r (bare x) act || u) (q .of M r o))
+            ∙ ap (λ (u : Bool). nearMin M r (bare x) act || nearMax M r (bare x) act || u) g;
+      }
 
 -- ---- several_terms
 module _ {ds ss js : List ℕ} {s : Shape} {f : Floats} {n : Numbers} (r : ℕ) {act : Activity} {x : Limits} {l : ℕ} {b : Bool} (al : Alive n r) (ea : Reads (Spans ss) s f n act (λ M w. activity M w (rowOf w r) true)) (lim : ReadsLimits s f r x) (en : l ≡ getD ss (r + 1) 0 - getD ss r 0)

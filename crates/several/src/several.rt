@@ -1,16 +1,21 @@
 // A row of two terms or more: infeasible, forcing, redundant, or else its implied bounds.
 ghost use Prim.Native.Nat.{_<_};
-ghost use mathlib.Core.Bool.{true, false};
+ghost use mathlib.Core.Path.{_≡_};
+ghost use mathlib.Core.Bool.{true, false, _||_};
 ghost use Rattle.definition.specs.Work.{dropRow};
 ghost use Rattle.definition.specs.Activities as activities;
+ghost use Rattle.definition.specs.Sides as sides;
 ghost use Rattle.definition.specs.Forcing.{fixAll};
 ghost use Rattle.definition.specs.Wave.{severalTerms};
 ghost use Rattle.space.specs.Store.{floatsOf, numbersOf, HoldsF, HoldsN};
+ghost use Rattle.formulas.specs.Bare.{bare, Says};
+ghost use Rattle.formulas.specs.Reduce.{mayReduce};
 ghost use Rattle.view.specs.Acts.{Ready, Acts, Tries};
 ghost use Rattle.readers.specs.Reading.{rowOf, Alive};
 ghost use Rattle.rows.specs.Knowing.{Marks, Moves};
 ghost use Rattle.several.specs.Several.{leftover, decided};
 use definition::Activity;
+use formulas::Limits;
 use space::Shape;
 use space::Step;
 
@@ -83,6 +88,38 @@ fn several_emitted(
     unforced(domain, starts, adj, w, m, s, r, act, e)
 }
 
+// What the working activity says of a row: whether no point meets it, and whether it may be forcing or
+// redundant.
+struct Reach {
+    never: bool,
+    reduces: bool,
+}
+
+fn either(a: bool, b: bool) -> bool
+    ensures { λ z. ⌜ z ≡ a || b ⌝ }
+{
+    if a {
+        return true;
+    }
+    b
+}
+
+// = unreachable and mayReduce. Both tests of a side stand together, so that its budget is computed once.
+fn reach_of(feas: f64, terms: usize, x: Limits, act: Activity) -> Reach
+    ensures { λ z. ⌜ Says feas terms (z .never) (λ M r. sides.unreachable M r (bare x) act) ⌝ }
+    ensures { λ z. ⌜ Says feas terms (z .reduces) (λ M r. mayReduce M r (bare x) act) ⌝ }
+{
+    let above = formulas::above_hi(feas, terms, x, act);
+    let low = formulas::near_min(feas, terms, x, act);
+    let below = formulas::below_lo(feas, terms, x, act);
+    let high = formulas::near_max(feas, terms, x, act);
+    let inside = formulas::within(x, act);
+    Reach {
+        never: either(above, below),
+        reduces: either(either(low, high), inside),
+    }
+}
+
 // = severalTerms
 pub fn several_terms(
     domain: &[u8],
@@ -100,10 +137,11 @@ pub fn several_terms(
     let act = readers::activity(starts, w, m, s, r, true);
     let x = readers::limits(w, s, r);
     let n = rows::written_terms(starts, r);
-    if formulas::unreachable(s.feas, n, x, act) {
+    let z = reach_of(s.feas, n, x, act);
+    if z.never {
         return Step::Stop;
     }
-    if formulas::may_reduce(s.feas, n, x, act) {
+    if z.reduces {
         return several_emitted(domain, starts, adj, w, m, s, r, act);
     }
     implied::implied_bounds(domain, starts, adj, w, m, s, r, act)

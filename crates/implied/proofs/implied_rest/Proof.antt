@@ -1,5 +1,5 @@
 use Rattle.view.specs.Steps.{ready-under}
-use Rattle.rows.specs.Knowing.{span-at, moves-spans, moves-bounding}
+use Rattle.rows.specs.Knowing.{moves-bounding}
 use Rattle.implied.specs.Sides.{rest-upper, rest-lower}
 use borrow.Author.Needs.{needs}
 use Rattle.implied.proofs.implied_rest.Statement.{statement}
@@ -11,15 +11,10 @@ use Rattle.bounds.proofs.tighten_upper.Reads as tighten-upper-reads
 use Rattle.formulas.proofs.bounds_above.Reads as bounds-above-reads
 use Rattle.formulas.proofs.quotient.Reads as quotient-reads
 use Rattle.formulas.proofs.relaxation.Reads as relaxation-reads
-use Rattle.rows.proofs.written_terms.Reads as written-terms-reads
 
 -- src/lib.rt:42:9
 quotient-requires : tie.Need-quotient-requires
 quotient-requires c κs = search needs
-
--- src/lib.rt:43:9
-written-terms-requires : tie.Need-written-terms-requires
-written-terms-requires c κs = span-at (c .before .before .before .before .before .before .pre .1) moves-spans (c .before .before .before .before .before .before .pre .0 .0)
 
 -- src/lib.rt:44:9
 relaxation-requires : tie.Need-relaxation-requires
@@ -31,7 +26,7 @@ bounds-above-requires c κs = search needs
 
 -- src/lib.rt:46:9
 tighten-upper-requires : tie.Need-tighten-upper-requires
-tighten-upper-requires c κs = ((c .before .before .before .before .before .before .before .before .before .before .before .before .pre .0 .1, c .before .before .before .before .before .before .before .before .before .before .before .before .pre .0 .2, c .before .before .before .before .before .before .before .before .before .before .before .before .pre .0 .3), ready-under moves-bounding (c .before .before .before .before .before .before .before .before .before .before .before .before .pre .1))
+tighten-upper-requires c κs = ((c .before .before .before .before .before .before .before .before .before .before .before .pre .0 .1, c .before .before .before .before .before .before .before .before .before .before .before .pre .0 .2, c .before .before .before .before .before .before .before .before .before .before .before .pre .0 .3), ready-under moves-bounding (c .before .before .before .before .before .before .before .before .before .before .before .pre .1 .0))
 
 -- src/lib.rt:46:9
 same-length : tie.Need-same-length
@@ -43,11 +38,11 @@ same-length-2 c = search needs
 
 -- src/lib.rt:46:9
 returns : tie.Need-returns
-returns c = rest-upper _ _ _ _ _ _ _ _ (c .before .before .before .before .before .before .before .before .before .before .before .quotient .ensures) (c .before .before .before .before .before .before .before .before .before .before .written-terms .ensures) (c .before .before .before .before .before .before .before .before .before .relaxation .ensures) (c .before .before .before .before .before .before .before .before .bounds-above .ensures) (c .before .before .before .before .before .before .before .if1 .taken) (c .before .before .before .before .tighten-upper .ensures)
+returns c = rest-upper _ _ _ _ _ _ _ _ (c .before .before .before .before .before .before .before .before .before .before .quotient .ensures) (c .before .before .before .before .before .before .before .before .before .before .before .before .before .before .before .before .pre .1 .1) (c .before .before .before .before .before .before .before .before .before .relaxation .ensures) (c .before .before .before .before .before .before .before .before .bounds-above .ensures) (c .before .before .before .before .before .before .before .if1 .taken) (c .before .before .before .before .tighten-upper .ensures)
 
 -- src/lib.rt:48:5
 tighten-lower-requires : tie.Need-tighten-lower-requires
-tighten-lower-requires c κs = ((c .before .before .before .before .before .before .before .before .before .before .before .before .pre .0 .1, c .before .before .before .before .before .before .before .before .before .before .before .before .pre .0 .2, c .before .before .before .before .before .before .before .before .before .before .before .before .pre .0 .3), ready-under moves-bounding (c .before .before .before .before .before .before .before .before .before .before .before .before .pre .1))
+tighten-lower-requires c κs = ((c .before .before .before .before .before .before .before .before .before .before .before .pre .0 .1, c .before .before .before .before .before .before .before .before .before .before .before .pre .0 .2, c .before .before .before .before .before .before .before .before .before .before .before .pre .0 .3), ready-under moves-bounding (c .before .before .before .before .before .before .before .before .before .before .before .pre .1 .0))
 
 -- src/lib.rt:22:1
 same-length-3 : tie.Need-same-length-3
@@ -59,14 +54,13 @@ same-length-4 c = search needs
 
 -- src/lib.rt:22:1
 returns-2 : tie.Need-returns-2
-returns-2 c = rest-lower _ _ _ _ _ _ _ _ (c .before .before .before .before .before .before .before .before .before .before .before .quotient .ensures) (c .before .before .before .before .before .before .before .before .before .before .written-terms .ensures) (c .before .before .before .before .before .before .before .before .before .relaxation .ensures) (c .before .before .before .before .before .before .before .before .bounds-above .ensures) (c .before .before .before .before .before .before .before .if1 .left) (c .before .before .before .before .tighten-lower .ensures)
+returns-2 c = rest-lower _ _ _ _ _ _ _ _ (c .before .before .before .before .before .before .before .before .before .before .quotient .ensures) (c .before .before .before .before .before .before .before .before .before .before .before .before .before .before .before .before .pre .1 .1) (c .before .before .before .before .before .before .before .before .before .relaxation .ensures) (c .before .before .before .before .before .before .before .before .bounds-above .ensures) (c .before .before .before .before .before .before .before .if1 .left) (c .before .before .before .before .tighten-lower .ensures)
 
 pub implied-rest-spec : {M : Type 1} → statement M
 implied-rest-spec =
     tie.close
     (tie.spec
     quotient-requires
-    written-terms-requires
     relaxation-requires
     bounds-above-requires
     tighten-upper-requires
