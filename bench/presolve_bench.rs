@@ -2,7 +2,8 @@
 //
 //     bench/run [PICTURE]
 //
-// builds both and runs this. Each figure is the median of many calls (of batches of calls, where one is short). The reference
+// builds both and runs this. Each figure is the median of many calls (of batches of calls, where one is short), in the thread's
+// own processor time, so that other work on the machine counts little. The reference
 // is microlp 0.7.0's own text, compiled for release; its input is built before the clock runs, and the result it allocates is
 // freed while it runs, as a caller would. The port's slices are lent once: before the first call they hold junk, after that the
 // working slices hold zeros, as each call leaves them, and the result slices what the last call wrote. The bench counts
@@ -27,7 +28,25 @@ use model::{Model, INTEGER, LE};
 use std::alloc::{GlobalAlloc, Layout, System};
 use std::hint::black_box;
 use std::sync::atomic::{AtomicBool, AtomicU64, Ordering::Relaxed};
-use std::time::Instant;
+
+#[repr(C)]
+struct Timespec {
+    seconds: i64,
+    nanoseconds: i64,
+}
+
+extern "C" {
+    fn clock_gettime(clock: i32, time: *mut Timespec) -> i32;
+}
+
+// Seconds of this thread's processor time.
+fn now() -> f64 {
+    const CLOCK_THREAD_CPUTIME_ID: i32 = 3;
+    let mut t = Timespec { seconds: 0, nanoseconds: 0 };
+    // Linux's own clock; t is lent for the call
+    unsafe { clock_gettime(CLOCK_THREAD_CPUTIME_ID, &mut t) };
+    t.seconds as f64 + t.nanoseconds as f64 * 1e-9
+}
 
 // Counts allocations while it is told to.
 struct Counting;
@@ -140,27 +159,27 @@ fn times(models: &[Model], seconds: f64) -> Times {
         black_box(s.call(black_box(m)));
     }));
     let rust = |n: usize| {
-        let t = Instant::now();
+        let t = now();
         for _ in 0..n {
             for i in &inputs {
                 black_box(plain::run(black_box(i)));
             }
         }
-        t.elapsed().as_secs_f64() / (n * inputs.len()) as f64
+        (now() - t) / (n * inputs.len()) as f64
     };
     let mut port = |n: usize| {
-        let t = Instant::now();
+        let t = now();
         for _ in 0..n {
             for (m, s) in models.iter().zip(&mut lent) {
                 black_box(s.call(black_box(m)));
             }
         }
-        t.elapsed().as_secs_f64() / (n * models.len()) as f64
+        (now() - t) / (n * models.len()) as f64
     };
-    // a batch takes at least a tenth of a millisecond
+    // a batch takes some milliseconds
     let once = (rust(1) + port(1)) * models.len() as f64;
-    let batch = ((1e-4 / once) as usize).max(1);
-    let runs = ((seconds / (once * batch as f64)) as usize).clamp(31, 2001) | 1;
+    let batch = ((4e-3 / once) as usize).max(1);
+    let runs = ((seconds / (once * batch as f64)) as usize).clamp(51, 2001) | 1;
     let (mut a, mut b) = (Vec::new(), Vec::new());
     for _ in 0..runs {
         a.push(rust(batch));

@@ -8,7 +8,7 @@
 
 extern "C" {
     fn suedeonyx_presolve(
-        objective: *const f64, objective_len: usize,
+        obj: *const f64, obj_len: usize,
         lower: *const f64, lower_len: usize,
         upper: *const f64, upper_len: usize,
         domain: *const u8, domain_len: usize,
@@ -17,7 +17,7 @@ extern "C" {
         coeff: *const f64, coeff_len: usize,
         cmp: *const u8, cmp_len: usize,
         rhs: *const f64, rhs_len: usize,
-        mode: u8, feasibility: f64, int_tol: f64,
+        mode: u8, feas: f64, int_tol: f64,
         out_lower: *mut f64, out_lower_len: usize,
         out_upper: *mut f64, out_upper_len: usize,
         emit_row: *mut usize, emit_row_len: usize,
@@ -38,8 +38,8 @@ extern "C" {
 /// `suedeonyx_presolve` on slices.
 #[allow(clippy::too_many_arguments)]
 pub fn presolve(
-    objective: &[f64], lower: &[f64], upper: &[f64], domain: &[u8], starts: &[usize], index: &[usize], coeff: &[f64], cmp: &[u8], rhs: &[f64],
-    mode: u8, feasibility: f64, int_tol: f64,
+    obj: &[f64], lower: &[f64], upper: &[f64], domain: &[u8], starts: &[usize], index: &[usize], coeff: &[f64], cmp: &[u8], rhs: &[f64],
+    mode: u8, feas: f64, int_tol: f64,
     out_lower: &mut [f64], out_upper: &mut [f64],
     emit_row: &mut [usize], emit_rewritten: &mut [bool], emit_rhs: &mut [f64], emit_from: &mut [usize], emit_upto: &mut [usize],
     kept: &mut [usize], term_index: &mut [usize], term_coeff: &mut [f64],
@@ -48,7 +48,7 @@ pub fn presolve(
     // Each pointer comes from a slice with its length, and slices that can be written overlap no other.
     unsafe {
         suedeonyx_presolve(
-            objective.as_ptr(), objective.len(),
+            obj.as_ptr(), obj.len(),
             lower.as_ptr(), lower.len(),
             upper.as_ptr(), upper.len(),
             domain.as_ptr(), domain.len(),
@@ -57,7 +57,7 @@ pub fn presolve(
             coeff.as_ptr(), coeff.len(),
             cmp.as_ptr(), cmp.len(),
             rhs.as_ptr(), rhs.len(),
-            mode, feasibility, int_tol,
+            mode, feas, int_tol,
             out_lower.as_mut_ptr(), out_lower.len(),
             out_upper.as_mut_ptr(), out_upper.len(),
             emit_row.as_mut_ptr(), emit_row.len(),

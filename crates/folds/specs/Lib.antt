@@ -12,3 +12,4 @@ pub mod Relaxing
 pub mod WrittenInv
 pub mod Kept
 pub mod Holding
+pub mod Scan

@@ -4,6 +4,7 @@ mod besides;
 mod folding;
 mod holding;
 mod relaxing;
+mod scan;
 mod written;
 
 pub use besides::fixed_besides;
@@ -13,4 +14,5 @@ pub use folding::fold_loop;
 pub use holding::fold_fixed;
 pub use holding::hold_rewrites;
 pub use relaxing::relax_binding;
+pub use scan::fold_row;
 pub use written::as_written;

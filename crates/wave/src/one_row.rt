@@ -29,7 +29,7 @@ pub fn wave_row(
     space::put_dirty(m, s, r, 0);
     let live = space::get_alive(m, s, r);
     if live == 1 {
-        folds::fold_fixed(starts, index, coeff, cmp, rhs, w, m, s, r);
+        folds::fold_row(starts, index, coeff, cmp, rhs, w, m, s, r);
         return several::by_count(domain, starts, index, coeff, cmp, rhs, adj, w, m, s, r);
     }
     Step::Next

@@ -9,7 +9,7 @@ use Rattle.wave.proofs.one_row.wave_row.Statement.{statement}
 use Rattle.wave.proofs.one_row.wave_row.Tie as tie
 use Rattle.wave.proofs.one_row.wave_row.Reads as reads
 use Rattle.wave.proofs.one_row.wave_row.Lts as lts
-use Rattle.folds.proofs.fold_fixed.Reads as fold-fixed-reads
+use Rattle.folds.proofs.fold_row.Reads as fold-row-reads
 use Rattle.several.proofs.by_count.Reads as by-count-reads
 use Rattle.space.proofs.get_alive.Reads as get-alive-reads
 use Rattle.space.proofs.put_dirty.Reads as put-dirty-reads
@@ -23,12 +23,12 @@ get-alive-requires : tie.Need-get-alive-requires
 get-alive-requires c κs = search needs
 
 -- src/one_row.rt:32:9
-fold-fixed-requires : tie.Need-fold-fixed-requires
-fold-fixed-requires c κs = ((c .before .before .before .before .before .before .before .before .before .before .before .before .before .before .before .before .before .before .pre .0 .0, c .before .before .before .before .before .before .before .before .before .before .before .before .before .before .before .before .before .before .pre .0 .1, omega (arith, c .before .before .before .before .before .before .before .put-dirty .kept, c .before .before .before .before .before .before .before .before .before .before .before .before .before .before .before .before .before .before .pre .0 .2)), standing (ready-under known-written (ready-clear _ (c .before .before .before .before .before .before .before .before .before .before .before .before .before .before .before .before .before .before .pre .0 .0) (c .before .before .before .before .before .before .before .put-dirty .ensures) (c .before .before .before .before .before .before .before .before .before .before .before .before .before .before .before .before .before .before .pre .1))) (c .before .before .before .before .before .before .before .before .before .before .before .before .before .before .before .before .before .before .pre .0 .0) (sym (c .before .before .before .get-alive .ensures) ∙ c .before .before .if1 .taken))
+fold-row-requires : tie.Need-fold-row-requires
+fold-row-requires c κs = ((c .before .before .before .before .before .before .before .before .before .before .before .before .before .before .before .before .before .before .pre .0 .0, c .before .before .before .before .before .before .before .before .before .before .before .before .before .before .before .before .before .before .pre .0 .1, omega (arith, c .before .before .before .before .before .before .before .put-dirty .kept, c .before .before .before .before .before .before .before .before .before .before .before .before .before .before .before .before .before .before .pre .0 .2)), standing (ready-under known-written (ready-clear _ (c .before .before .before .before .before .before .before .before .before .before .before .before .before .before .before .before .before .before .pre .0 .0) (c .before .before .before .before .before .before .before .put-dirty .ensures) (c .before .before .before .before .before .before .before .before .before .before .before .before .before .before .before .before .before .before .pre .1))) (c .before .before .before .before .before .before .before .before .before .before .before .before .before .before .before .before .before .before .pre .0 .0) (sym (c .before .before .before .get-alive .ensures) ∙ c .before .before .if1 .taken))
 
 -- src/one_row.rt:33:9
 by-count-requires : tie.Need-by-count-requires
-by-count-requires c κs = ((c .before .before .before .before .before .before .before .before .before .before .before .before .before .before .before .before .before .before .before .before .before .before .before .before .before .pre .0 .0, omega (arith, c .before .before .before .before .before .before .fold-fixed .kept, c .before .before .before .before .before .before .before .before .before .before .before .before .before .before .before .before .before .before .before .before .before .before .before .before .before .pre .0 .1), omega (arith, c .before .before .before .before .before .before .fold-fixed .kept, c .before .before .before .before .before .before .before .before .before .before .before .before .before .before .put-dirty .kept, c .before .before .before .before .before .before .before .before .before .before .before .before .before .before .before .before .before .before .before .before .before .before .before .before .before .pre .0 .2), alive-folded _ (c .before .before .before .before .before .before .before .before .before .before .before .before .before .before .before .before .before .before .before .before .before .before .before .before .before .pre .0 .0) (c .before .before .before .before .before .before .before .before .before .before .before .before .before .before .put-dirty .ensures) (c .before .before .before .before .before .before .before .before .before .before .get-alive .ensures) (c .before .before .before .before .before .before .before .before .before .if1 .taken) (c .before .before .before .before .before .before .fold-fixed .ensures) (c .before .before .before .before .before .before .before .before .before .before .before .before .before .before .before .before .before .before .before .before .before .before .before .before .before .pre .1)), ready-folded _ (c .before .before .before .before .before .before .before .before .before .before .before .before .before .before .before .before .before .before .before .before .before .before .before .before .before .pre .0 .0) (c .before .before .before .before .before .before .before .before .before .before .before .before .before .before .put-dirty .ensures) (c .before .before .before .before .before .before .before .before .before .before .get-alive .ensures) (c .before .before .before .before .before .before .before .before .before .if1 .taken) (c .before .before .before .before .before .before .fold-fixed .ensures) (c .before .before .before .before .before .before .before .before .before .before .before .before .before .before .before .before .before .before .before .before .before .before .before .before .before .pre .1))
+by-count-requires c κs = ((c .before .before .before .before .before .before .before .before .before .before .before .before .before .before .before .before .before .before .before .before .before .before .before .before .before .pre .0 .0, omega (arith, c .before .before .before .before .before .before .fold-row .kept, c .before .before .before .before .before .before .before .before .before .before .before .before .before .before .before .before .before .before .before .before .before .before .before .before .before .pre .0 .1), omega (arith, c .before .before .before .before .before .before .fold-row .kept, c .before .before .before .before .before .before .before .before .before .before .before .before .before .before .put-dirty .kept, c .before .before .before .before .before .before .before .before .before .before .before .before .before .before .before .before .before .before .before .before .before .before .before .before .before .pre .0 .2), alive-folded _ (c .before .before .before .before .before .before .before .before .before .before .before .before .before .before .before .before .before .before .before .before .before .before .before .before .before .pre .0 .0) (c .before .before .before .before .before .before .before .before .before .before .before .before .before .before .put-dirty .ensures) (c .before .before .before .before .before .before .before .before .before .before .get-alive .ensures) (c .before .before .before .before .before .before .before .before .before .if1 .taken) (c .before .before .before .before .before .before .fold-row .ensures) (c .before .before .before .before .before .before .before .before .before .before .before .before .before .before .before .before .before .before .before .before .before .before .before .before .before .pre .1)), ready-folded _ (c .before .before .before .before .before .before .before .before .before .before .before .before .before .before .before .before .before .before .before .before .before .before .before .before .before .pre .0 .0) (c .before .before .before .before .before .before .before .before .before .before .before .before .before .before .put-dirty .ensures) (c .before .before .before .before .before .before .before .before .before .before .get-alive .ensures) (c .before .before .before .before .before .before .before .before .before .if1 .taken) (c .before .before .before .before .before .before .fold-row .ensures) (c .before .before .before .before .before .before .before .before .before .before .before .before .before .before .before .before .before .before .before .before .before .before .before .before .before .pre .1))
 
 -- src/one_row.rt:33:9
 same-length : tie.Need-same-length
@@ -40,7 +40,7 @@ same-length-2 c = search needs
 
 -- src/one_row.rt:33:9
 returns : tie.Need-returns
-returns c = row-live _ (c .before .before .before .before .before .before .before .before .before .before .before .before .before .before .before .before .before .before .before .before .before .before .before .before .before .before .before .before .before .before .pre .0 .0) (c .before .before .before .before .before .before .before .before .before .before .before .before .before .before .before .before .before .before .before .put-dirty .ensures) (c .before .before .before .before .before .before .before .before .before .before .before .before .before .before .before .get-alive .ensures) (c .before .before .before .before .before .before .before .before .before .before .before .before .before .before .if1 .taken) (c .before .before .before .before .before .before .before .before .before .before .before .fold-fixed .ensures) (c .before .before .before .before .by-count .ensures)
+returns c = row-live _ (c .before .before .before .before .before .before .before .before .before .before .before .before .before .before .before .before .before .before .before .before .before .before .before .before .before .before .before .before .before .before .pre .0 .0) (c .before .before .before .before .before .before .before .before .before .before .before .before .before .before .before .before .before .before .before .put-dirty .ensures) (c .before .before .before .before .before .before .before .before .before .before .before .before .before .before .before .get-alive .ensures) (c .before .before .before .before .before .before .before .before .before .before .before .before .before .before .if1 .taken) (c .before .before .before .before .before .before .before .before .before .before .before .fold-row .ensures) (c .before .before .before .before .by-count .ensures)
 
 -- src/one_row.rt:12:1
 same-length-3 : tie.Need-same-length-3
@@ -56,7 +56,7 @@ wave-row-spec =
     (tie.spec
     put-dirty-requires
     get-alive-requires
-    fold-fixed-requires
+    fold-row-requires
     by-count-requires
     same-length
     same-length-2
