@@ -11,6 +11,7 @@ pub use coeffs::written_coeff;
 pub use empty::empty_row_violated;
 pub use rows::activity;
 pub use rows::limits;
+pub use rows::working_activity;
 pub use vars::bound_tol;
 pub use vars::fixed_value;
 pub use vars::is_int;

@@ -1,4 +1,5 @@
 // What is read of an alive row: its sides, and its activity.
+ghost use mathlib.Core.Bool.{true};
 ghost use Prim.Native.Nat.{_+_, _^_, _<_};
 ghost use Rattle.tolerances.specs.Tol.{at, term};
 ghost use Rattle.definition.specs.Activities as definition;
@@ -74,6 +75,26 @@ pub fn activity(
         let v = space::get_var(m, s, a + i);
         let x = space::get_coeff(w, s, a + i);
         act = activity_term(w, s, v, x, act, working);
+        i += 1;
+    }
+    act
+}
+
+// = activity over the working bounds. A function of its own, and not a call of activity, since it is compiled into its one
+// caller: every row of every wave has it.
+pub fn working_activity(starts: &[usize], w: &[f64], m: &[usize], s: Shape, r: usize) -> Activity
+    requires { ⌜ (r < s .rows) × HoldsF s (now w) × HoldsN s (now m) × Alive (numbersOf s (now m)) r ⌝ }
+    requires { ⌜ Ready (Spans (now starts)) s (floatsOf s (now w)) (numbersOf s (now m)) ⌝ }
+    ensures { λ z. ⌜ Reads (Spans (now (starts .entry))) s (floatsOf s (now (w .entry))) (numbersOf s (now (m .entry))) z (λ M u. definition.activity M u (rowOf u r) true) ⌝ }
+{
+    let a = starts[r];
+    let n = space::get_len(m, s, r);
+    let mut act = no_activity();
+    let mut i = 0;
+    while i < n {
+        let v = space::get_var(m, s, a + i);
+        let x = space::get_coeff(w, s, a + i);
+        act = activity_term(w, s, v, x, act, true);
         i += 1;
     }
     act

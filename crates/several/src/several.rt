@@ -134,7 +134,7 @@ pub fn several_terms(
     requires { ⌜ Ready (Moves (now domain) (now starts) (now adj)) s (floatsOf s (now w)) (numbersOf s (now m)) ⌝ }
     ensures { λ z. ⌜ Tries (Moves (now (domain .entry)) (now (starts .entry)) (now (adj .entry))) s (floatsOf s (now (w .entry))) (numbersOf s (now (m .entry))) (floatsOf s (now (w .exit))) (numbersOf s (now (m .exit))) z (λ M u. severalTerms M r (rowOf u r) u) ⌝ }
 {
-    let act = readers::activity(starts, w, m, s, r, true);
+    let act = readers::working_activity(starts, w, m, s, r);
     let x = readers::limits(w, s, r);
     let n = rows::written_terms(starts, r);
     let z = reach_of(s.feas, n, x, act);

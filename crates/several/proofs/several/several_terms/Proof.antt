@@ -7,15 +7,15 @@ use Rattle.several.proofs.several.several_terms.Tie as tie
 use Rattle.several.proofs.several.several_terms.Reads as reads
 use Rattle.several.proofs.several.several_terms.Lts as lts
 use Rattle.implied.proofs.implied_bounds.Reads as implied-bounds-reads
-use Rattle.readers.proofs.activity.Reads as activity-reads
+use Rattle.readers.proofs.working_activity.Reads as working-activity-reads
 use Rattle.readers.proofs.limits.Reads as limits-reads
 use Rattle.rows.proofs.written_terms.Reads as written-terms-reads
 use Rattle.several.proofs.several.reach_of.Reads as reach-of-reads
 use Rattle.several.proofs.several.several_emitted.Reads as several-emitted-reads
 
 -- src/several.rt:137:9
-activity-requires : tie.Need-activity-requires
-activity-requires c κs = (c .before .before .before .before .before .before .before .pre .0, ready-under moves-spans (c .before .before .before .before .before .before .before .pre .1))
+working-activity-requires : tie.Need-working-activity-requires
+working-activity-requires c κs = (c .before .before .before .before .before .before .before .pre .0, ready-under moves-spans (c .before .before .before .before .before .before .before .pre .1))
 
 -- src/several.rt:138:9
 limits-requires : tie.Need-limits-requires
@@ -39,7 +39,7 @@ same-length-2 c = search needs
 
 -- src/several.rt:142:9
 returns : tie.Need-returns
-returns c = several-stop _ (c .before .before .before .before .before .before .before .before .before .before .before .before .before .pre .0 .3) (c .before .before .before .before .before .activity .ensures) (c .before .before .before .limits .ensures) (c .before .before .written-terms .ensures) (c .before .reach-of .ensures .0) (c .if1 .taken)
+returns c = several-stop _ (c .before .before .before .before .before .before .before .before .before .before .before .before .before .pre .0 .3) (c .before .before .before .before .before .working-activity .ensures) (c .before .before .before .limits .ensures) (c .before .before .written-terms .ensures) (c .before .reach-of .ensures .0) (c .if1 .taken)
 
 -- src/several.rt:145:9
 several-emitted-requires : tie.Need-several-emitted-requires
@@ -55,7 +55,7 @@ same-length-4 c = search needs
 
 -- src/several.rt:145:9
 returns-2 : tie.Need-returns-2
-returns-2 c = several-emitted _ (c .before .before .before .before .before .before .before .before .before .before .before .before .before .before .before .before .before .before .before .before .before .pre .0 .3) (c .before .before .before .before .before .before .before .before .before .before .before .before .before .activity .ensures) (c .before .before .before .before .before .before .before .before .before .before .before .limits .ensures) (c .before .before .before .before .before .before .before .before .before .before .written-terms .ensures) (c .before .before .before .before .before .before .before .before .before .reach-of .ensures .0) (c .before .before .before .before .before .before .before .before .if1 .left) (c .before .before .before .before .several-emitted .ensures)
+returns-2 c = several-emitted _ (c .before .before .before .before .before .before .before .before .before .before .before .before .before .before .before .before .before .before .before .before .before .pre .0 .3) (c .before .before .before .before .before .before .before .before .before .before .before .before .before .working-activity .ensures) (c .before .before .before .before .before .before .before .before .before .before .before .limits .ensures) (c .before .before .before .before .before .before .before .before .before .before .written-terms .ensures) (c .before .before .before .before .before .before .before .before .before .reach-of .ensures .0) (c .before .before .before .before .before .before .before .before .if1 .left) (c .before .before .before .before .several-emitted .ensures)
 
 -- src/several.rt:147:5
 implied-bounds-requires : tie.Need-implied-bounds-requires
@@ -71,13 +71,13 @@ same-length-6 c = search needs
 
 -- src/several.rt:124:1
 returns-3 : tie.Need-returns-3
-returns-3 c = several-implied _ (c .before .before .before .before .before .before .before .before .before .before .before .before .before .before .before .before .before .before .before .before .before .pre .0 .3) (c .before .before .before .before .before .before .before .before .before .before .before .before .before .activity .ensures) (c .before .before .before .before .before .before .before .before .before .before .before .limits .ensures) (c .before .before .before .before .before .before .before .before .before .before .written-terms .ensures) (c .before .before .before .before .before .before .before .before .before .reach-of .ensures .0) (c .before .before .before .before .before .before .before .before .if1 .left) (c .before .before .before .before .before .before .before .before .before .reach-of .ensures .1) (c .before .before .before .before .before .before .before .if2 .left) (c .before .before .before .before .implied-bounds .ensures)
+returns-3 c = several-implied _ (c .before .before .before .before .before .before .before .before .before .before .before .before .before .before .before .before .before .before .before .before .before .pre .0 .3) (c .before .before .before .before .before .before .before .before .before .before .before .before .before .working-activity .ensures) (c .before .before .before .before .before .before .before .before .before .before .before .limits .ensures) (c .before .before .before .before .before .before .before .before .before .before .written-terms .ensures) (c .before .before .before .before .before .before .before .before .before .reach-of .ensures .0) (c .before .before .before .before .before .before .before .before .if1 .left) (c .before .before .before .before .before .before .before .before .before .reach-of .ensures .1) (c .before .before .before .before .before .before .before .if2 .left) (c .before .before .before .before .implied-bounds .ensures)
 
 pub several-terms-spec : {M : Type 1} → statement M
 several-terms-spec =
     tie.close
     (tie.spec
-    activity-requires
+    working-activity-requires
     limits-requires
     written-terms-requires
     reach-of-requires
