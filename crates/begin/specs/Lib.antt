@@ -1,8 +1,9 @@
 pub mod Crossing
 pub mod Rounding
 pub mod Reading
-pub mod Chains
 pub mod Totals
-pub mod Linking
-pub mod Spreading
+pub mod AtWork
+pub mod Passes
+pub mod Counting
+pub mod Placing
 pub mod Start

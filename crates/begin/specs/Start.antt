@@ -26,8 +26,8 @@ use Rattle.view.specs.Lists.{yes, no}
 use Rattle.view.specs.Adjacency.{Adjacency}
 use Rattle.folds.specs.Written.{Given}
 use Rattle.begin.specs.Rounding.{Limits, Rounded, FourLong}
-use Rattle.begin.specs.Linking.{Placed}
-use Rattle.begin.specs.Spreading.{Adjoined}
+use Rattle.begin.specs.AtWork.{Placed}
+use Rattle.begin.specs.Placing.{Adjoined}
 use Rattle.begin.specs.Reading.{cleared, RowsLong, Front, RowsShown, failed, shown, SameBounds, allRows, RowsRead}
 
 -- the state that the rounds start from

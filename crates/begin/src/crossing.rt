@@ -4,7 +4,7 @@ ghost use lib.ListN.{length};
 ghost use Rattle.definition.specs.Begin as definition;
 
 // = crossed
-pub fn crossed(lower: &[f64], upper: &[f64]) -> bool
+pub(crate) fn crossed(lower: &[f64], upper: &[f64]) -> bool
     requires { ⌜ length (now upper) ≡ length (now lower) ⌝ }
     ensures { λ z. ⌜ z ≡ definition.crossed (now (lower .entry)) (now (upper .entry)) ⌝ }
 {

@@ -13,7 +13,7 @@ use space::Step;
 use tolerances::Verdict;
 
 // Of row r as handed in.
-pub fn verdict(starts: &[usize], cmp: &[u8], rhs: &[f64], s: Shape, r: usize) -> Verdict
+pub(crate) fn verdict(starts: &[usize], cmp: &[u8], rhs: &[f64], s: Shape, r: usize) -> Verdict
     requires { ⌜ (r + 1 < length (now starts)) × (r < length (now cmp)) × (r < length (now rhs)) × (getD (now starts) r 0 ≤ getD (now starts) (r + 1) 0) ⌝ }
     ensures { λ z. ⌜ verdictOf z ≡ verdictAt s (now (starts .entry)) (now (cmp .entry)) (now (rhs .entry)) r ⌝ }
 {
@@ -25,7 +25,7 @@ pub fn verdict(starts: &[usize], cmp: &[u8], rhs: &[f64], s: Shape, r: usize) ->
 }
 
 // Nothing is queued, and nothing is counted.
-pub fn clear(m: &mut [usize], s: Shape)
+pub(crate) fn clear(m: &mut [usize], s: Shape)
     requires { ⌜ HoldsN s (now m) ⌝ }
     ensures { λ _. ⌜ numbersOf s (now (m .exit)) ≡ cleared (numbersOf s (now (m .entry))) ⌝ }
 {
@@ -92,7 +92,7 @@ fn read_row(
 }
 
 // = readFrom
-pub fn read_rows(
+pub(crate) fn read_rows(
     starts: &[usize],
     index: &[usize],
     coeff: &[f64],

@@ -36,7 +36,7 @@ fn round_var(domain: &[u8], w: &mut [f64], s: Shape, int_tol: f64, v: usize, l: 
 }
 
 // = roundFrom
-pub fn round_vars(
+pub(crate) fn round_vars(
     lower: &[f64],
     upper: &[f64],
     domain: &[u8],

@@ -4,8 +4,8 @@ ghost use lib.ListN.{length};
 ghost use Rattle.space.specs.Store.{floatsOf, numbersOf, HoldsF, HoldsN};
 ghost use Rattle.folds.specs.Written.{Given};
 ghost use Rattle.begin.specs.Start.{Handed, Begins};
+use crate::adjacency::adjacency;
 use crate::crossing::crossed;
-use crate::links::adjacency;
 use crate::reading::clear;
 use crate::reading::read_rows;
 use crate::rounding::round_vars;
@@ -37,7 +37,7 @@ pub fn begin(
         return Step::Stop;
     }
     if round_vars(lower, upper, domain, w, s, int_tol) {
-        adjacency(starts, index, cmp, rhs, adj, m, s);
+        adjacency(starts, index, cmp, rhs, adj, s);
         return read_rows(starts, index, coeff, cmp, rhs, w, m, s);
     }
     clear(m, s);

@@ -1,13 +1,13 @@
 -- Implied bounds on the slices: one law for the four ways to tighten, by what the move is; and that each keeps the invariant.
-use Prim.Native.Nat.{ℕ, zero, suc, _+_, _-_, _%_, _^_, _≤_, _<_}
+use Prim.Native.Nat.{ℕ, _-_, _<_}
 use native.Mathlib.Omega.{arith}
 use mathlib.Core.Path.{_≡_, refl, ap, sym, _∙_, subst}
 use mathlib.Core.Bool.{Bool, true, false, not, _&&_}
-use mathlib.Core.List.{List, [], _∷_}
+use mathlib.Core.List.{List}
 use lib.Dec.{eqb}
 use lib.ListN.{length, getD, set, length-set}
 use lib.Ieee.{Float, nan}
-use Rattle.floats.specs.Num.{choose, _⊖_, _⊕_, minf, maxf, isFinite, floor, ceil, gt}
+use Rattle.floats.specs.Num.{choose, _⊖_, _⊕_, minf, maxf, isFinite, floor, ceil}
 use Rattle.tolerances.specs.Tol.{at, boundTolerance}
 use Rattle.definition.specs.Params.{params}
 use Rattle.definition.specs.Model.{Model, isInt, isMip, isIntDomain}
@@ -21,15 +21,15 @@ use Rattle.formulas.specs.declared.Move.{Move}
 use Rattle.formulas.specs.declared.Move.the-variants as moves
 use Rattle.formulas.specs.Moves.{byMove, upperIntMove, upperRealMove, lowerIntMove, lowerRealMove, upper-int-of, upper-real-of, lower-int-of, lower-real-of, emitsTighter, emittedLower, emittedUpper, emit-bounds-of}
 use Rattle.view.specs.Call.{Call}
-use Rattle.view.specs.Shows.{Shows, StepShown, stopped, went}
+use Rattle.view.specs.Shows.{Shows, StepShown}
 use Rattle.view.specs.Inv.{Inv}
 use Rattle.view.specs.Lists.{yes, no, either}
-use Rattle.view.specs.Acts.{Ready, Acts, Tries, Reads, ReadyN, ActsN, Any, Keeps, acts-then, of-numbers}
+use Rattle.view.specs.Acts.{Ready, Acts, Tries, Reads, ActsN, Keeps, acts-then, of-numbers}
 use Rattle.view.specs.Steps.{InvStep, stops, goes, KeepsStep, tries-under}
-use Rattle.view.specs.Adjacency.{Adjacency, Adj}
+use Rattle.view.specs.Adjacency.{Adj}
 use Rattle.view.specs.Marks.{inv-mark-var}
 use Rattle.view.specs.Known.{Bounding, bounding-adj}
-use Rattle.view.specs.Bounds.{setWlo, setWhi, setElo, setEhi, wlo-acts, whi-acts, elo-acts, ehi-acts, wlo-keeps, whi-keeps, elo-keeps, ehi-keeps, inv-tighten, wlo-is, whi-is, elo-is, ehi-is, went-by, stopped-by}
+use Rattle.view.specs.Bounds.{wlo-acts, whi-acts, elo-acts, ehi-acts, wlo-keeps, whi-keeps, elo-keeps, ehi-keeps, inv-tighten, wlo-is, whi-is, elo-is, ehi-is, went-by, stopped-by}
 
 -- ---- a move, as the slices have it
 move-is : (s : Shape) (F : Model → Work → Step) (T : Model → Work → Work) (mv : Model → Work → Move) → ((M : Model) (w : Work) → Call M s → byMove (mv M w) (next w) (stop (w .counts)) (next (T M w)) ≡ F M w)

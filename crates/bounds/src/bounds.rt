@@ -1,5 +1,6 @@
 // `fix`, `emit_bounds`, `tighten_upper` and `tighten_lower`: what changes a variable's bounds.
 ghost use mathlib.Core.Path.{_≡_};
+ghost use mathlib.Core.Bool.{true};
 ghost use Prim.Native.Nat.{_<_};
 ghost use lib.ListN.{length, getD};
 ghost use Rattle.definition.specs.Bounds as definition;
@@ -9,6 +10,7 @@ ghost use Rattle.view.specs.Adjacency.{Adj};
 ghost use Rattle.view.specs.Known.{Bounding};
 ghost use Rattle.bounds.specs.Flags.{FlagsKept};
 ghost use Rattle.bounds.specs.Moves.{EmitsFour, intCode};
+ghost use Rattle.bounds.specs.Stays.{Stays};
 use crate::marks::mark_var;
 use formulas::Move;
 use space::Shape;
@@ -226,4 +228,20 @@ pub fn tighten_lower(
         return lower_real(adj, w, m, s, v, q - relax);
     }
     Step::Next
+}
+
+// Whether an implied bound q of variable v, from above or from below, leaves it as it is, whatever it is relaxed by.
+pub fn stays(domain: &[u8], w: &[f64], s: Shape, v: usize, q: f64, above: bool) -> bool
+    requires { ⌜ (v < s .vars) × HoldsF s (now w) × (v < length (now domain)) ⌝ }
+    ensures { λ z. ⌜ (z ≡ true → Stays (now (domain .entry)) s (floatsOf s (now (w .entry))) v q above) ⌝ }
+{
+    let int = is_int(domain, s, v);
+    if above {
+        let ehi = space::get_ehi(w, s, v);
+        let whi = space::get_whi(w, s, v);
+        return formulas::upper_stays(int, q, ehi, whi);
+    }
+    let elo = space::get_elo(w, s, v);
+    let wlo = space::get_wlo(w, s, v);
+    formulas::lower_stays(int, q, elo, wlo)
 }

@@ -6,6 +6,7 @@ mod marks;
 pub use bounds::emit_bounds;
 pub use bounds::fix;
 pub use bounds::fix_beside;
+pub use bounds::stays;
 pub use bounds::tighten_lower;
 pub use bounds::tighten_upper;
 pub use marks::mark_row;

@@ -1,7 +1,6 @@
 // `mark_row` and `mark_var`: requeueing.
-ghost use mathlib.Core.Path.{_≡_};
 ghost use Prim.Native.Nat.{_<_, _≤_};
-ghost use lib.ListN.{length, getD};
+ghost use lib.ListN.{length};
 ghost use lib.Seq.{slice};
 ghost use Rattle.definition.specs.Marks.{markRow, markVar};
 ghost use Rattle.space.specs.Store.{numbersOf, HoldsN};

@@ -1,12 +1,11 @@
 -- The bound that a rewritten row is emitted with, and the sum of its binaries' coefficients, on the slices.
-use Prim.Native.Nat.{ℕ, zero, suc, _+_, _≤_, _<_}
-use native.Mathlib.Omega.{arith}
+use Prim.Native.Nat.{ℕ, _+_, _≤_, _<_}
 use mathlib.Core.Path.{_≡_, refl, ap, sym, _∙_}
 use mathlib.Core.Bool.{Bool, true, false}
 use mathlib.Core.List.{List, [], _∷_}
 use mathlib.Core.Option.{Option, none, some}
 use lib.Dec.{eqb}
-use lib.ListN.{length, getD}
+use lib.ListN.{getD}
 use lib.Ieee.{Float, nan, neg}
 use Rattle.floats.specs.Num.{choose, _⊕_, 0f, abs}
 use Rattle.tolerances.specs.Tol.{at}
@@ -17,11 +16,9 @@ use Rattle.definition.specs.Work.{Work}
 use Rattle.definition.specs.Bindings.{sumCoeffs, bindingSum, boundWith, rewrittenBound}
 use Rattle.space.specs.declared.Shape.{Shape}
 use Rattle.space.specs.Store.{Floats, Numbers}
-use Rattle.view.specs.Call.{Call}
-use Rattle.view.specs.Shows.{isOne, Shows}
-use Rattle.view.specs.Inv.{Inv}
+use Rattle.view.specs.Shows.{isOne}
 use Rattle.view.specs.Lists.{yes, no, one-is, one-not}
-use Rattle.view.specs.Acts.{Ready, Reads}
+use Rattle.view.specs.Acts.{Reads}
 use Rattle.view.specs.Known.{Spans, Written, written-spans}
 use Rattle.readers.specs.Reading.{rowOf, Alive}
 use Rattle.readers.specs.RowAt.{row-shown}

@@ -1,12 +1,12 @@
 -- What a rewrite does to a term, and how many terms are eligible, on the slices.
-use Prim.Native.Nat.{ℕ, zero, suc, _+_, _≤_, _<_}
+use Prim.Native.Nat.{ℕ, _+_, _≤_, _<_}
 use native.Mathlib.Omega.{arith}
 use mathlib.Core.Path.{_≡_, refl, ap, sym, _∙_}
 use mathlib.Core.Bool.{Bool}
 use mathlib.Core.List.{List, [], _∷_}
 use lib.ListN.{length, getD}
 use lib.Ieee.{Float, nan}
-use Rattle.tolerances.specs.Tol.{Term, term, at}
+use Rattle.tolerances.specs.Tol.{Term, term}
 use Rattle.definition.specs.declared.Activity.{Activity}
 use Rattle.definition.specs.Model.{Model, isIntDomain}
 use Rattle.definition.specs.Work.{Work}
@@ -17,8 +17,6 @@ use Rattle.formulas.specs.Bare.{bare, ByParams}
 use Rattle.formulas.specs.Rewriting.{binaryAt, binary-of, rewriteAt, rewrite-of}
 use Rattle.space.specs.declared.Shape.{Shape}
 use Rattle.space.specs.Store.{Floats, Numbers}
-use Rattle.view.specs.Call.{Call}
-use Rattle.view.specs.Shows.{Shows}
 use Rattle.view.specs.Acts.{Ready, Reads}
 use Rattle.view.specs.Known.{Spans}
 use Rattle.view.specs.Bounds.{elo-is, ehi-is}

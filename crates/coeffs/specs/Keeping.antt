@@ -11,12 +11,12 @@ use lib.ListN.{length, getD, set}
 use lib.Ieee.{Float, eq}
 use Rattle.floats.specs.Num.{0f}
 use Rattle.tolerances.specs.Tol.{Term, term}
-use Rattle.definition.specs.Model.{Model, written, Row, Binding, withRange, withBinding, rhsMag}
+use Rattle.definition.specs.Model.{Model, Row, Binding, withRange, withBinding, rhsMag}
 use Rattle.definition.specs.Work.{Work, noTerm, has, hasTerm}
 use Rattle.definition.specs.Rewrites.{Form, leForm, geForm, noForm, Rewrite, keeps, coeffOnly, coeffBound}
 use Rattle.definition.specs.Bindings.{taken, rewriteBinding}
 use Rattle.definition.specs.Tighten.{setCoeff, reboundRow, rowAfter}
-use Rattle.view.specs.Inv.{Distinct, distinct[], distinct∷, AllIn, allIn[], allIn∷, hasNonzero, BinariesIn, binariesIn[], binariesIn∷, BindingIn, noneIn, someIn, RowInv}
+use Rattle.view.specs.Inv.{Distinct, distinct∷, AllIn, allIn∷, hasNonzero, BinariesIn, binariesIn[], binariesIn∷, BindingIn, noneIn, someIn, RowInv}
 use Rattle.view.specs.Lists.{either}
 use Rattle.readers.specs.RowAt.{or-true}
 use Rattle.folds.specs.Written.{eqb-same, eqb-differ}

@@ -1,6 +1,6 @@
 -- `Work::activity`: a row's smallest and largest sum over the working or the emitted box (Savelsbergh), term by term in the row's order.
-use Prim.Native.Nat.{ℕ, suc}
-use mathlib.Core.Bool.{Bool, true, false}
+use Prim.Native.Nat.{suc}
+use mathlib.Core.Bool.{Bool}
 use mathlib.Core.List.{List, [], _∷_}
 use lib.Ieee.{Float, lt}
 use Rattle.floats.specs.Num.{choose, _⊕_, _⊗_, gt, 0f, isFinite, abs}

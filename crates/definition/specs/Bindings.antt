@@ -1,6 +1,5 @@
 -- `rewrite_binding` and `rewritten_bound`: the binding branch of a row's rewrites, and the bound that a rewritten row is emitted with.
-use Prim.Native.Nat.{ℕ, zero, suc}
-use mathlib.Core.Bool.{Bool, true, false}
+use Prim.Native.Nat.{ℕ}
 use mathlib.Core.List.{List, [], _∷_, _++_}
 use mathlib.Core.Option.{Option, none, some}
 use lib.Dec.{eqb}

@@ -1,7 +1,6 @@
 -- `fix`, `emit_bounds`, `tighten_upper` and `tighten_lower`: what changes a variable's bounds.
-use Prim.Native.Nat.{ℕ, zero, suc}
-use mathlib.Core.Bool.{Bool, true, false, not, _&&_, _||_}
-use mathlib.Core.List.{List}
+use Prim.Native.Nat.{ℕ}
+use mathlib.Core.Bool.{true, false, not, _||_}
 use lib.ListN.{set}
 use lib.Ieee.{Float, lt}
 use Rattle.floats.specs.Num.{choose, _⊕_, _⊖_, _⊗_, gt, 1f, ½f, isFinite, abs, maxf, minf, floor, ceil}

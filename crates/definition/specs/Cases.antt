@@ -1,14 +1,14 @@
 -- 01's "twelve model days": one table of models and answers, and one theorem, by computing the definition.
 use mathlib.Core.Path.{_≡_, refl}
-use Prim.Native.Nat.{ℕ, zero, suc, _+_, _^_}
-use mathlib.Core.Bool.{Bool, true, false}
+use Prim.Native.Nat.{ℕ, zero, _+_, _^_}
+use mathlib.Core.Bool.{true, false}
 use mathlib.Core.List.{List, [], _∷_, _++_}
-use lib.IntN.{ℤ, pos}
+use lib.IntN.{pos}
 use lib.ListN.{length}
 use lib.Ieee.{Float, binary64, neg, add, sub, mul, div, lt, eq, le, round, ofInt, ofBits, toBits, isNan, ne}
 use Rattle.floats.specs.Value.{mags}
 use Rattle.floats.specs.Next.{gap, prev}
-use Rattle.floats.specs.Num.{choose, isFinite, isInfinite, abs, maxf, minf, truncOf, awayOf, floor, ceil, nextUp, nextDown, ofCount, -∞f, ∞f}
+use Rattle.floats.specs.Num.{choose, isFinite, isInfinite, abs, maxf, minf, truncOf, awayOf, floor, ceil, nextUp, nextDown, ofCount}
 use Rattle.cdouble.specs.Double as double
 use Rattle.tolerances.specs.Tol.{Term, term, rowTolerance, boundTolerance, outside, slackMin, slackMax, trivialVerdict, slackMargin, slackTol, lessTerm, impliedFrom, implied as tol·implied, impliedSlack, saysTrue, violated, zipTerms}
 use Rattle.definition.specs.Params.{params}

@@ -3,7 +3,7 @@ use Prim.Native.Nat.{ℕ, zero, suc}
 use mathlib.Core.Bool.{Bool, true, false, not, _&&_, _||_}
 use mathlib.Core.List.{List, [], _∷_}
 use lib.ListN.{length, getD, set}
-use lib.Ieee.{Float, le}
+use lib.Ieee.{le}
 use Rattle.floats.specs.Num.{choose, gt, ge, 0f, isFinite}
 use Rattle.tolerances.specs.Tol.{Term, at}
 use Rattle.definition.specs.Model.{Model, isInt, Row}

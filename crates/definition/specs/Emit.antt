@@ -8,7 +8,7 @@ use lib.Ieee.{Float, eq}
 use Rattle.floats.specs.Num.{choose, isFinite}
 use Rattle.tolerances.specs.Tol.{Term}
 use Rattle.definition.specs.declared.Counts.{Counts}
-use Rattle.definition.specs.Model.{Model, from, upto, rhsOf, Row, Emit, Reduced, Answer, infeasible, done}
+use Rattle.definition.specs.Model.{Model, from, upto, rhsOf, Row, Emit, Answer, infeasible, done}
 use Rattle.definition.specs.Work.{Work, withRow, Step, stop, next, noRow, trivial}
 use Rattle.definition.specs.Folds.{foldFixed}
 use Rattle.definition.specs.Singles.{emptyRowCheck}

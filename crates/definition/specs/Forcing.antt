@@ -1,6 +1,6 @@
 -- `forcing_fixings` and forcing in `primal_wave`: a row whose corner over the emitted box meets its bound fixes all of its variables there, or none.
-use Prim.Native.Nat.{ℕ, zero, suc}
-use mathlib.Core.Bool.{Bool, true, false, not, _&&_}
+use Prim.Native.Nat.{ℕ}
+use mathlib.Core.Bool.{Bool, true, not, _&&_}
 use mathlib.Core.List.{List, [], _∷_}
 use lib.Dec.{eqb}
 use lib.Ieee.{Float, neg, lt, le}

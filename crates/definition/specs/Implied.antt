@@ -1,5 +1,5 @@
 -- `primal_wave`, the implied bounds of each term, from each side of the row.
-use Prim.Native.Nat.{ℕ, zero, suc}
+use Prim.Native.Nat.{ℕ}
 use mathlib.Core.Bool.{Bool, true, false, not}
 use mathlib.Core.List.{List, [], _∷_}
 use mathlib.Core.Option.{Option, none, some}
@@ -9,7 +9,7 @@ use Rattle.floats.specs.Num.{choose, _⊕_, _⊖_, _⊗_, _⊘_, gt, 0f, isFini
 use Rattle.tolerances.specs.Tol.{Term, at, ROUNDOFF-FLOOR}
 use Rattle.definition.specs.declared.Activity.{Activity}
 use Rattle.definition.specs.Model.{Model, Row, rhsMag, rangeMin, rangeMax}
-use Rattle.definition.specs.Work.{Work, Step, stop, next, _>>=_, budget}
+use Rattle.definition.specs.Work.{Work, Step, next, _>>=_, budget}
 use Rattle.definition.specs.Bounds.{tightenUpper, tightenLower}
 
 -- the rest of the row at a corner, c being the term's part: none where another term there is infinite

@@ -1,7 +1,7 @@
 -- `mark_row` and `mark_var`: requeueing.
 use Prim.Native.Nat.{ℕ, zero, suc}
-use mathlib.Core.Bool.{Bool, true, false, not, _&&_}
-use mathlib.Core.List.{List, [], _∷_, _++_}
+use mathlib.Core.Bool.{Bool, true, not, _&&_}
+use mathlib.Core.List.{[], _∷_, _++_}
 use lib.ListN.{length, getD, set}
 use Rattle.floats.specs.Num.{choose}
 use Rattle.definition.specs.Model.{Model, written}

@@ -1,14 +1,13 @@
 -- src/presolve/model.rs: what a call hands in, the rows as presolve works on them, and what comes back. Definitions only.
-use Prim.Native.Nat.{ℕ, zero, suc, _+_, _-_}
-use mathlib.Core.Bool.{Bool, true, false, not, _&&_, _||_}
+use Prim.Native.Nat.{ℕ, suc, _+_, _-_}
+use mathlib.Core.Bool.{Bool, true, false, not, _&&_}
 use mathlib.Core.List.{List, [], _∷_}
 use mathlib.Core.Option.{Option, none, some}
 use lib.Dec.{eqb}
-use lib.ListN.{length, getD, take, drop}
-use lib.Ieee.{Float, nan, inf, fin}
+use lib.ListN.{getD, take, drop}
+use lib.Ieee.{Float}
 use Rattle.floats.specs.Num.{choose, _⊕_, _⊗_, gt, 0f, ∞f, -∞f, abs}
 use Rattle.tolerances.specs.Tol.{Term, term, at, zipTerms}
-use Rattle.definition.specs.declared.Activity.{Activity}
 use Rattle.definition.specs.declared.Counts.{Counts}
 use Rattle.definition.specs.Params.{Params}
 

@@ -1,6 +1,5 @@
 -- src/presolve/mod.rs: `presolve` over the call's numbers alone, and `reduced_model` above it.
-use Prim.Native.Nat.{ℕ}
-use mathlib.Core.Bool.{Bool, true, false}
+use mathlib.Core.Bool.{true}
 use mathlib.Core.List.{List, []}
 use mathlib.Core.Option.{Option, none, some}
 use lib.ListN.{length}

@@ -1,6 +1,6 @@
 -- `tighten_binary_coeffs`, what a rewrite does to one term: a vacuous branch of a binary is made bound-tight (Savelsbergh). Functions of records alone.
-use Prim.Native.Nat.{ℕ, zero, suc}
-use mathlib.Core.Bool.{Bool, true, false, not, _&&_}
+use Prim.Native.Nat.{ℕ, zero}
+use mathlib.Core.Bool.{not, _&&_}
 use lib.Dec.{eqb}
 use lib.Ieee.{Float, neg, lt}
 use Rattle.floats.specs.Num.{choose, _⊕_, _⊖_, _⊗_, gt, 0f, isFinite, maxf, minf}

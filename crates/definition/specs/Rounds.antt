@@ -1,11 +1,11 @@
 -- src/presolve/mod.rs, the fixpoint of `presolve`: waves, then in Mip the coefficient and the dual step, for at most so many rounds.
 use Prim.Native.Nat.{ℕ, zero, suc, _-_}
-use mathlib.Core.Bool.{Bool, true, false, _||_}
+use mathlib.Core.Bool.{Bool, false, _||_}
 use lib.Dec.{eqb}
 use Rattle.floats.specs.Num.{choose}
 use Rattle.definition.specs.Params.{maxWaves}
 use Rattle.definition.specs.Model.{Model, isMip}
-use Rattle.definition.specs.Work.{Work, Step, stop, next, _>>=_}
+use Rattle.definition.specs.Work.{Work, Step, next, _>>=_}
 use Rattle.definition.specs.Wave.{waves}
 use Rattle.definition.specs.Tighten.{tightenBinaryCoeffs}
 use Rattle.definition.specs.Dual.{dualFix}

@@ -1,6 +1,6 @@
 -- `primal_wave`, what a row's activities say of it: whether no point meets it, whether it may force its variables, whether it is redundant.
-use Prim.Native.Nat.{ℕ, zero, suc}
-use mathlib.Core.Bool.{Bool, true, false, not, _&&_, _||_}
+use Prim.Native.Nat.{ℕ}
+use mathlib.Core.Bool.{Bool, not, _&&_, _||_}
 use lib.Dec.{eqb}
 use lib.Ieee.{Float, lt, le}
 use Rattle.floats.specs.Num.{choose, _⊕_, _⊖_, _⊗_, gt, ge, 0f, 1f, isFinite, maxf}

@@ -1,7 +1,6 @@
 -- `empty_row_check` and `singleton_row`: rows of no term, and of one.
-use Prim.Native.Nat.{ℕ, zero, suc}
+use Prim.Native.Nat.{ℕ, zero}
 use mathlib.Core.Bool.{Bool, true, false, not, _&&_, _||_}
-use mathlib.Core.List.{List}
 use lib.Ieee.{Float, lt, le}
 use Rattle.floats.specs.Num.{choose, _⊕_, _⊖_, _⊗_, _⊘_, gt, ge, 0f, isFinite, abs, maxf, minf, floor, ceil}
 use Rattle.tolerances.specs.Tol.{Term, at, ROUNDOFF-FLOOR, rowTolerance, violated}

@@ -1,10 +1,10 @@
 -- src/presolve/work.rs, `Work`: the state that the reductions change, a step that may find the model infeasible, and what is read off the state.
-use Prim.Native.Nat.{ℕ, zero, suc}
+use Prim.Native.Nat.{ℕ}
 use mathlib.Core.Bool.{Bool, true, false, _&&_, _||_}
 use mathlib.Core.List.{List, [], _∷_}
-use mathlib.Core.Option.{Option, none, some}
+use mathlib.Core.Option.{none}
 use lib.Dec.{eqb}
-use lib.ListN.{getD, set}
+use lib.ListN.{set}
 use lib.Ieee.{Float, nan, eq}
 use Rattle.floats.specs.Num.{choose, 0f, isFinite}
 use Rattle.tolerances.specs.Tol.{Term, term, at, boundTolerance, slackTol, saysTrue, trivialVerdict}

@@ -4,11 +4,11 @@ use native.Mathlib.Omega.{arith}
 use native.Mathlib.Numerals.{add-one}
 use mathlib.Core.Path.{_≡_, refl, ap, sym, _∙_}
 use mathlib.Core.Bool.{Bool, true, false}
-use mathlib.Core.List.{List, [], _∷_, _++_, map}
-use lib.ListN.{length, getD, set, take}
+use mathlib.Core.List.{List, [], _∷_, _++_}
+use lib.ListN.{length, getD, take}
 use lib.Seq.{take-suc}
 use lib.Ieee.{Float, nan}
-use Rattle.floats.specs.Num.{choose, gt, 0f, isFinite}
+use Rattle.floats.specs.Num.{choose, isFinite}
 use Rattle.tolerances.specs.Tol.{Term, term, at}
 use Rattle.definition.specs.Model.{Model, Row, from}
 use Rattle.definition.specs.Work.{Work, noRow, noTerm}
@@ -16,13 +16,11 @@ use Rattle.definition.specs.Dual.{blockTerms, badDec, badInc}
 use Rattle.formulas.specs.Fixing.{blocksAt}
 use Rattle.space.specs.declared.Shape.{Shape}
 use Rattle.space.specs.Store.{Floats, Numbers}
-use Rattle.view.specs.Call.{Call}
 use Rattle.view.specs.Shows.{isOne, Shows, RowShown, partsOf}
-use Rattle.view.specs.Inv.{Inv}
 use Rattle.view.specs.Lists.{yes, no, one-is, one-not}
 use Rattle.view.specs.Acts.{Ready}
 use Rattle.view.specs.Known.{Spans}
-use Rattle.readers.specs.Reading.{rowOf, Alive}
+use Rattle.readers.specs.Reading.{rowOf}
 use Rattle.readers.specs.RowAt.{RowAt, row-ready}
 use Rattle.dual.specs.Flags.{take-whole, Flags, withBad, barred, flags-same, flags-then, flags-none}
 

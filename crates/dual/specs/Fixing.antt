@@ -8,7 +8,6 @@ use mathlib.Core.List.{List, map}
 use lib.Dec.{eqb}
 use lib.ListN.{length, getD}
 use lib.Ieee.{Float, nan}
-use Rattle.floats.specs.Num.{choose}
 use Rattle.tolerances.specs.Tol.{at}
 use Rattle.definition.specs.Model.{Model, isInt}
 use Rattle.definition.specs.Work.{Work, fixed}

@@ -5,8 +5,8 @@ use native.Mathlib.Numerals.{add-one}
 use mathlib.Core.Path.{_≡_, refl, ap, sym, _∙_}
 use mathlib.Core.Bool.{Bool, true, false}
 use mathlib.Core.List.{List, [], _∷_, _++_, map}
-use lib.ListN.{length, getD, set, take, length-set}
-use lib.Seq.{take-suc-set, take-suc}
+use lib.ListN.{length, set, take, length-set}
+use lib.Seq.{take-suc-set}
 use Rattle.floats.specs.Num.{choose}
 use Rattle.definition.specs.Model.{Model}
 use Rattle.definition.specs.Work.{Work}

@@ -14,7 +14,7 @@ use Rattle.tolerances.specs.Tol.{Term, at}
 use Rattle.definition.specs.Model.{Model, from, upto, rhsOf, Row, Emit}
 use Rattle.definition.specs.Work.{noRow, trivial}
 use Rattle.definition.specs.Bindings.{rewrittenBound}
-use Rattle.definition.specs.Emit.{Out, noOut, sortTerms, keepRow, writtenEntry, emitWritten, emitRewritten, outRow}
+use Rattle.definition.specs.Emit.{Out, noOut, sortTerms, keepRow, emitWritten, emitRewritten, outRow}
 use Rattle.view.specs.Lists.{yes, no, either}
 use Rattle.emit.specs.Settled.{outSettled, outOf}
 

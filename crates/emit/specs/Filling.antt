@@ -1,14 +1,14 @@
 -- A result slice that is written from the front: the list l over what was there.
-use Prim.Native.Nat.{ℕ, zero, suc, _+_, _≤_, _<_}
+use Prim.Native.Nat.{ℕ, suc, _+_, _≤_, _<_}
 use native.Mathlib.Omega.{arith}
 use native.Mathlib.Numerals.{add-one}
 use mathlib.Core.Path.{_≡_, refl, ap, sym, _∙_, subst}
 use mathlib.Core.Bool.{Bool, true, false}
 use mathlib.Core.List.{List, [], _∷_, _++_}
-use lib.ListN.{length, getD, set, take, drop, length-append, length-drop, length-set}
+use lib.ListN.{length, getD, set, take, drop, length-append, length-drop}
 use lib.Seq.{drop-cons, set-at, append-snoc, take-suc, take-all, length-take-le}
 use Rattle.floats.specs.Num.{choose}
-use Rattle.view.specs.Lists.{yes, no, either}
+use Rattle.view.specs.Lists.{yes, no}
 use Rattle.emit.specs.Fates.{collect, collect-length}
 
 module _ {A : Type 0} where

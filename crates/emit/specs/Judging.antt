@@ -1,7 +1,6 @@
 -- Fates written to the slices, row by row: they are those of every state that the slices show, and that state stays shown.
-use Prim.Native.Nat.{ℕ, zero, suc, _+_, _-_, _≤_, _<_}
+use Prim.Native.Nat.{ℕ, _+_, _-_, _≤_, _<_}
 use native.Mathlib.Omega.{arith}
-use native.Mathlib.Numerals.{add-one}
 use mathlib.Core.Path.{_≡_, refl, ap, sym, _∙_, subst}
 use mathlib.Core.Logic.{_≢_, ⊎-elim}
 use mathlib.Core.Bool.{Bool, true, false}
@@ -9,24 +8,24 @@ use mathlib.Core.List.{List}
 use lib.ListN.{length, getD, set}
 use lib.Seq.{getD-set-same, getD-set-other}
 use lib.Ieee.{Float, nan}
-use Rattle.floats.specs.Num.{choose, isFinite}
+use Rattle.floats.specs.Num.{isFinite}
 use Rattle.tolerances.specs.Tol.{at, trivialVerdict, saysTrue}
 use Rattle.tolerances.specs.declared.Verdict.{Verdict}
 use Rattle.tolerances.specs.Answers.{verdictOf}
-use Rattle.definition.specs.Model.{Model, from, upto, nnz, opOf, rhsOf, Row}
-use Rattle.definition.specs.Work.{Work, noRow, trivial}
+use Rattle.definition.specs.Model.{Model, from, upto, nnz, opOf, rhsOf}
+use Rattle.definition.specs.Work.{Work, trivial}
 use Rattle.definition.specs.Bindings.{rewrittenBound}
 use Rattle.space.specs.declared.Shape.{Shape}
 use Rattle.space.specs.Store.{Floats, Numbers, put-fate, put-bound}
 use Rattle.view.specs.Call.{Call}
-use Rattle.view.specs.Shows.{isOne, Shows, partsOf, tallyOf}
+use Rattle.view.specs.Shows.{isOne, Shows}
 use Rattle.view.specs.Inv.{Inv}
 use Rattle.view.specs.Acts.{Ready, Reads}
 use Rattle.view.specs.Known.{Written}
 use Rattle.view.specs.Lists.{yes, no, one-is, one-not}
 use Rattle.view.specs.Rows.{same?}
-use Rattle.readers.specs.Reading.{rowOf, Alive}
-use Rattle.readers.specs.RowAt.{row-alive, row-shown, alive-of}
+use Rattle.readers.specs.Reading.{rowOf}
+use Rattle.readers.specs.RowAt.{row-alive, row-shown}
 use Rattle.emit.specs.Fates.{isRewritten, fateOf, Fates}
 
 -- ---- is_trivial

@@ -1,10 +1,10 @@
 -- A part of a list, clipped to what there is.
-use Prim.Native.Nat.{ℕ, _+_, _-_, _≤_, _<_}
+use Prim.Native.Nat.{ℕ, _+_, _-_, _≤_}
 use native.Mathlib.Omega.{arith}
-use mathlib.Core.Path.{_≡_, refl, ap, sym, _∙_}
+use mathlib.Core.Path.{_≡_, ap, sym, _∙_}
 use mathlib.Core.Bool.{Bool, true, false}
-use mathlib.Core.List.{List, []}
-use lib.ListN.{length, take, drop, length-take, drop-of-length-le}
+use mathlib.Core.List.{List}
+use lib.ListN.{length, take, drop, drop-of-length-le}
 use lib.Seq.{slice, take-all, take-add, drop-at, length-take-le}
 use Rattle.floats.specs.Num.{choose}
 use Rattle.view.specs.Lists.{yes, no}

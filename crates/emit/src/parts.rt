@@ -1,6 +1,5 @@
 // The terms of an emitted row: a part of the model's slices, or of the rewritten ones.
 ghost use mathlib.Core.Path.{_≡_};
-ghost use mathlib.Core.Bool.{Bool};
 ghost use lib.Seq.{slice};
 ghost use Rattle.floats.specs.Num.{choose};
 ghost use Rattle.emit.specs.Parts.{Least};

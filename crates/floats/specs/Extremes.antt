@@ -1,14 +1,14 @@
 -- WHAT abs, smaller, larger AND finite ARE BY VALUE, after IEEE 754-2019 5.5.1, 9.6 and 5.7.2: abs is the size; the larger is one of the two, and below neither; a NaN loses to a number on either side;
 -- of two zeros the first stays, whatever their signs (9.6 has -0 below +0). What is finite is a number.
-use mathlib.Core.Path.{_≡_, refl, sym, ap, _∙_, subst}
+use mathlib.Core.Path.{_≡_, refl, sym, ap, subst}
 use mathlib.Core.Logic.{_⊎_, inl, inr}
-use Prim.Native.Nat.{ℕ, _+_, _≤_, _<_}
+use Prim.Native.Nat.{_+_}
 use native.Mathlib.Omega.{arith}
-use mathlib.Core.Bool.{Bool, true, false, not, _||_}
+use mathlib.Core.Bool.{Bool, true, false, not}
 use lib.Dec.{T}
-use lib.IntN.{ℤ, pos, negℤ}
+use lib.IntN.{ℤ, pos}
 use lib.Ieee.{Float, nan, inf, fin, binary64, isNan, lt, fits}
-use Rattle.floats.specs.Zed.{P, N, A, _⊑_, _⊏_, P-neg, N-neg}
+use Rattle.floats.specs.Zed.{A, _⊑_, _⊏_}
 use Rattle.floats.specs.Value.{mags, sign, units, signed-A, Num}
 use Rattle.floats.specs.Order.{Real, nan-real, rank, lt→⊏, nlt→⊑}
 use Rattle.floats.specs.Meaning.{maxf-first, maxf-second, minf-first, minf-second}
@@ -84,7 +84,7 @@ minf-value x y hx hy = go (lt y x) refl
     go false e = subst (SmallerOf x y) (sym (minf-first x y (hx .real) e)) (record { one = inl refl; left = self-le (rank x); right = nlt→⊑ y x hy hx (falsely (lt y x) e) })
 
 -- a NaN on the right loses too; on the left it does by `maxf-nan` and `minf-nan`
-no-lt : (x : Float) → (lt x nan ≡ false) × (lt nan x ≡ false)
+pub no-lt : (x : Float) → (lt x nan ≡ false) × (lt nan x ≡ false)
 unfolding lt
 no-lt nan = (refl, refl)
 no-lt (inf s) = (refl, refl)

@@ -1,19 +1,17 @@
 -- LAWS OF ORDER that proofs cite by themselves: a sum with what is not negative does not fall, a difference does not rise, floor and ceil leave a whole number, a tolerance is below 1.
 use mathlib.Core.Path.{_≡_, refl, sym, ap, _∙_, subst}
 use mathlib.Core.Logic.{_⊎_, inl, inr}
-use Prim.Native.Nat.{ℕ, _+_, _≤_, _<_}
+use Prim.Native.Nat.{_+_, _≤_}
 use native.Mathlib.Omega.{arith}
 use mathlib.Core.Bool.{Bool, true, false, not, true≢false}
-use lib.Dec.{T}
-use lib.IntN.{ℤ, pos, negsuc, negℤ, _+ℤ_, _-ℤ_}
-use lib.Ieee.{Float, nan, inf, fin, binary64, isNan, neg, add, sub, lt, ofBits}
-use Rattle.floats.specs.Zed.{P, N, A, _⊑_, _⊏_, ext, add-parts, sub-parts}
-use Rattle.floats.specs.Value.{mags, sign, units, size-of, Num}
-use Rattle.floats.specs.Norm.{same}
-use Rattle.floats.specs.Order.{Real, num-real, rank, rank-num, ⊑→le}
+use lib.IntN.{ℤ, pos, _+ℤ_, _-ℤ_}
+use lib.Ieee.{Float, nan, inf, fin, isNan, neg, add, sub, lt, ofBits}
+use Rattle.floats.specs.Zed.{_⊑_, add-parts, sub-parts}
+use Rattle.floats.specs.Value.{units, Num}
+use Rattle.floats.specs.Order.{num-real, rank, rank-num, ⊑→le}
 use Rattle.floats.specs.Ranks.{sum-result, sub-result, held-of}
-use Rattle.floats.specs.Meaning.{floor-value, floor-greatest, ceil-mirror}
-use Rattle.floats.specs.Points.{Whole, Held, _≼_, _≺_, to-units, whole-num}
+use Rattle.floats.specs.Meaning.{floor-own, ceil-mirror}
+use Rattle.floats.specs.Points.{Whole, Held, _≼_, _≺_, to-units}
 use Rattle.floats.specs.Compare.{le-lt-trans}
 use Rattle.floats.specs.WholeRounding.{⅜f, NonNeg, Tol, nonneg-rank, nonneg-cases, inf-real, num-fin, inf-inf, num-minus, minus-minus, top, bottom, sum-above, sub-below}
 use Rattle.floats.specs.Quotients.{neg-is}
@@ -100,17 +98,7 @@ sub-shrinks-real {x} {r} f h k = sub-shrinks-at x r f h k
 
 -- ---- floor and ceil leave a whole number
 pub floor-fixes : {x : Float} → Whole x → floor x ≡ x
-floor-fixes {x} w =
-    let n = whole-num x w in
-    let F = floor-value x n in
-    let up = floor-greatest x x _ n (to-units x w) (self-le (units x)) .1 in
-    same (floor x) x (F .is .num) n (F .signs) (sym (size-of (floor x)) ∙ ap A (both (units (floor x)) (units x) (F .low) up) ∙ size-of x)
-  where
-    self-le : (u : ℤ) → u ⊑ u
-    self-le u = omega arith
-
-    both : (u v : ℤ) → u ⊑ v → v ⊑ u → u ≡ v
-    both u v h k = ext u v (omega arith)
+floor-fixes {x} w = sym (floor-own x _ (to-units x w))
 
 pub ceil-fixes : {x : Float} → Whole x → ceil x ≡ x
 ceil-fixes {x} w = ceil-mirror x ∙ ap neg (floor-fixes (neg-is x _ (to-units x w) .whole)) ∙ back x

@@ -23,3 +23,4 @@ pub mod Slacks
 pub mod Extremes
 pub mod Growth
 pub mod Rows
+pub mod Relaxed

@@ -1,28 +1,27 @@
 -- QUOTIENTS OF WHOLE NUMBERS round to the right side of a whole number, and a row of one term that its variable's bounds make redundant within a tolerance is redundant.
 -- Tolerances, margins and slacks made of whole numbers are not negative.
 use mathlib.Core.Path.{_≡_, refl, sym, ap, _∙_, subst}
-use mathlib.Core.Logic.{_⊎_, inl, inr, _≢_}
-use Prim.Native.Nat.{ℕ, zero, suc, _+_, _-_, _*_, _/_, _^_, _≤_, _<_, min, zero-le}
-use native.Mathlib.Nat.{le-refl, le-trans, le-of-eq, le-of-lt, lt-of-le-of-lt, lt-of-lt-of-le, not-le-of-lt, lt-irrefl, zero-lt-suc, zero-mul, mul-pos, mul-comm, mul-assoc, mul-le-mul-right, mul-le-mul-left, mul-le-mul, div-mul-le-self, lt-div-mul-add, le-div-iff-mul-le, add-zero}
+use mathlib.Core.Logic.{_≢_}
+use Prim.Native.Nat.{ℕ, zero, suc, _+_, _-_, _*_, _/_, _^_, _≤_, _<_}
+use native.Mathlib.Nat.{le-refl, le-trans, le-of-eq, le-of-lt, lt-of-le-of-lt, lt-irrefl, zero-mul, mul-pos, mul-le-mul-right, mul-le-mul-left, div-mul-le-self, lt-div-mul-add, le-div-iff-mul-le, add-zero}
 use native.Mathlib.Omega.{arith}
-use mathlib.Core.Bool.{Bool, true, false, not, true≢false}
+use mathlib.Core.Bool.{Bool, true, false, not}
 use lib.Dec.{T, leb, leb→le, nleb→lt, lit<, lit≤}
 use lib.Pow.{pow-pos}
 use lib.IntN.{ℤ, pos, negsuc, negℤ, _+ℤ_, _-ℤ_, _*ℤ_}
-use lib.Ieee.{Float, nan, inf, fin, binary64, unlike, neg, add, sub, mul, div, round, lt, le}
-use Rattle.floats.specs.Zed.{P, N, A, _⊑_, _⊏_, side, ext, P-neg, N-neg, add-parts, sub-parts}
-use Rattle.floats.specs.Value.{mags, sign, units, signed, size-of, Num}
+use lib.Ieee.{Float, nan, inf, fin, neg, div, round, lt, le}
+use Rattle.floats.specs.Zed.{P, N, A, _⊑_, _⊏_, side, P-neg, N-neg, add-parts, sub-parts}
+use Rattle.floats.specs.Value.{mags, units, size-of, Num}
 use Rattle.floats.specs.Product.{pq, nq, mul-parts}
 use Rattle.floats.specs.Whole as W
 use Rattle.floats.specs.Whole.{sc, P-sc, N-sc}
-use Rattle.floats.specs.Order.{Real, num-real, le-real, rank, rank-num, le→⊑, ⊑→le}
-use Rattle.floats.specs.Meaning.{maxf-first, maxf-second}
+use Rattle.floats.specs.Order.{rank, rank-num, le→⊑, ⊑→le}
 use Rattle.floats.specs.Ranks as K
-use Rattle.floats.specs.Ranks.{Quot, quot-above, quot-below, Result, sum-result, sub-result, mul-result, div-result, held-of}
-use Rattle.floats.specs.Points.{int, Whole, _≼_, _≺_, _⊀_, Held, Bounded, Is, to-units, of-units, whole-num, whole-real, whole-rank, units-fin}
-use Rattle.floats.specs.WholeRounding.{⅜f, NonNeg, Tol, zero-num, zero-units, zero-rank, real-0, nonneg-real, nonneg-rank, nonneg-of, tol-real, tol-low, tol-high, tol-of, tol-num, tol-most, tol-least, inf-real, small-num, nonneg-cases, num-fin, inf-inf, top, held-scaled, zero-held, link, same-order, held-less, held-more, bound-size, sum-above, sum-below, sub-above, sub-below, add-keeps, sub-keeps}
+use Rattle.floats.specs.Ranks.{quot-above, quot-below, Result, sum-result, sub-result, div-result, held-of}
+use Rattle.floats.specs.Points.{int, Whole, _≼_, Held, Bounded, Is, to-units, of-units, whole-num, whole-real, whole-rank, units-fin}
+use Rattle.floats.specs.WholeRounding.{NonNeg, Tol, tol-num, tol-most, tol-least, small-num, held-scaled, zero-held, held-less, held-more, sum-below, sub-above, add-keeps, sub-keeps}
 use Rattle.floats.specs.Compare as C
-use Rattle.floats.specs.Num.{_⊕_, _⊖_, _⊗_, _⊘_, 0f, abs, maxf, isFinite}
+use Rattle.floats.specs.Num.{_⊕_, _⊖_, _⊘_, abs, isFinite}
 
 -- ---- a positive whole number
 module _ (a : Float) (w : Whole a) (p : pos 0 ⊏ int a) where

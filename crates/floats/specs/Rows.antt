@@ -1,15 +1,15 @@
 -- A ROW'S SUM IS EXACT, whatever its length: parts that are whole numbers of a known size add up to the exact total, each addition rounding once and none of them changing anything,
 -- as long as the sizes together stay within 2 ^ 53. The parts may be products of coefficients and values, or their magnitudes. A row's activity is such a sum.
 use mathlib.Core.Path.{_≡_, refl, sym, ap, _∙_, subst}
-use Prim.Native.Nat.{ℕ, zero, suc, _+_, _-_, _*_, _^_, _≤_, _<_, min}
+use Prim.Native.Nat.{ℕ, suc, _+_, _-_, _*_, _^_, _≤_}
 use native.Mathlib.Nat.{le-trans, le-of-eq, mul-le-mul, add-zero}
 use native.Mathlib.Omega.{arith}
 use mathlib.Core.Bool.{Bool, true}
 use mathlib.Core.List.{List, [], _∷_}
 use lib.ListN.{length}
-use lib.IntN.{ℤ, pos, negsuc, negℤ, _+ℤ_, _-ℤ_, _*ℤ_, +ℤ-assoc, +ℤ-idr}
+use lib.IntN.{ℤ, pos, _+ℤ_, _-ℤ_, _*ℤ_, +ℤ-assoc, +ℤ-idr}
 use lib.Ieee.{Float}
-use Rattle.floats.specs.Zed.{P, N, A, side, add-parts, sub-parts}
+use Rattle.floats.specs.Zed.{A, side, add-parts, sub-parts}
 use Rattle.floats.specs.Whole.{size-mul}
 use Rattle.floats.specs.Extremes.{num-finite}
 use Rattle.floats.specs.Points.{int, Bounded, Is, whole-num, add-is, sub-is, mul-is, abs-is}

@@ -1,27 +1,27 @@
 -- SLACKS AND TOLERANCES of farm models: sums, products and quotients of what is not negative are not negative, and what is at most 3/8 stays so.
 use mathlib.Core.Path.{_≡_, refl, sym, ap, _∙_, subst}
 use mathlib.Core.Logic.{_⊎_, inl, inr}
-use Prim.Native.Nat.{ℕ, zero, suc, _+_, _-_, _*_, _/_, _^_, _≤_, _<_, min, zero-le}
-use native.Mathlib.Nat.{le-refl, le-trans, le-of-eq, zero-lt-suc, zero-mul, mul-zero, mul-le-mul, mul-le-mul-right, mul-le-mul-left, lt-irrefl, add-zero}
+use Prim.Native.Nat.{ℕ, _+_, _-_, _*_, _/_, _^_, _≤_, _<_, zero-le}
+use native.Mathlib.Nat.{le-trans, le-of-eq, zero-mul, mul-zero, mul-le-mul-right, mul-le-mul-left, lt-irrefl, add-zero}
 use native.Mathlib.Omega.{arith}
 use mathlib.Core.Bool.{Bool, true, false, not}
-use lib.Dec.{T, lit<, lit≤}
-use lib.IntN.{ℤ, pos, negsuc, negℤ, _+ℤ_, _-ℤ_}
-use lib.Ieee.{Float, nan, inf, fin, binary64, isNan, unlike, lt, le, div, mul, ofBits, fits}
-use Rattle.floats.specs.Zed.{P, N, A, _⊑_, _⊏_, side, add-parts, sub-parts, N-neg}
+use lib.Dec.{T, lit≤}
+use lib.IntN.{ℤ, pos, _+ℤ_, _-ℤ_}
+use lib.Ieee.{Float, nan, inf, fin, binary64, lt, div, ofBits, fits}
+use Rattle.floats.specs.Zed.{P, N, _⊑_, _⊏_, side, add-parts, sub-parts, N-neg}
 use Rattle.floats.specs.Value.{mags, sign, units, Num}
 use Rattle.floats.specs.Product.{pq, nq}
 use Rattle.floats.specs.Norm.{Parts, parts-units}
 use Rattle.floats.specs.Whole as W
 use Rattle.floats.specs.Whole.{sc, P-sc, N-sc}
-use Rattle.floats.specs.Order.{Real, num-real, rank, rank-num, nlt→⊑, lt→⊏}
+use Rattle.floats.specs.Order.{Real, num-real, rank, rank-num, nlt→⊑}
 use Rattle.floats.specs.Meaning.{maxf-first, maxf-second}
 use Rattle.floats.specs.Ranks as K
-use Rattle.floats.specs.Ranks.{quot-above, quot-below, Result, sum-result, sub-result, mul-result, held-of}
-use Rattle.floats.specs.Points.{int, Whole, _≼_, Held, Bounded, to-units, whole-num, units-fin}
-use Rattle.floats.specs.WholeRounding.{⅜f, NonNeg, Tol, zero-num, zero-units, zero-rank, real-0, nonneg-real, nonneg-rank, nonneg-of, tol-real, tol-low, tol-high, tol-of, tol-num, tol-most, tol-least, inf-real, small-num, nonneg-cases, num-fin, inf-inf, top, zero-held, link, sum-above, sub-above, sub-below, far-rank, eighths}
+use Rattle.floats.specs.Ranks.{quot-above, quot-below, sum-result, sub-result, mul-result, held-of}
+use Rattle.floats.specs.Points.{int, Whole, Held, Bounded, to-units, whole-num, units-fin}
+use Rattle.floats.specs.WholeRounding.{⅜f, NonNeg, Tol, zero-rank, real-0, nonneg-real, nonneg-rank, nonneg-of, tol-real, tol-of, tol-num, tol-most, tol-least, inf-real, nonneg-cases, num-fin, inf-inf, top, zero-held, link, sum-above, sub-below, eighths}
 use Rattle.floats.specs.Quotients.{pos-units, pos-size, by, by-above}
-use Rattle.floats.specs.Num.{_⊕_, _⊖_, _⊗_, _⊘_, 0f, ½f, maxf}
+use Rattle.floats.specs.Num.{_⊕_, _⊖_, _⊗_, _⊘_, 0f, maxf}
 
 inf-nonneg : NonNeg (inf false)
 inf-nonneg = record { held = record { fits = inf-real false .fit }; low = top real-0 }
@@ -88,16 +88,8 @@ nonneg-div {x} {a} h w p = go (nonneg-cases h)
     go (inl n) = nonneg-of (by a w p x n .real) (by-above a w p x n (pos 0) zero-held (at (units x) (P (int a)) (subst (λ (z : ℤ). pos 0 ⊑ z) (rank-num x n) (nonneg-rank h))))
     go (inr e) = subst NonNeg (sym (ap (λ (z : Float). z ⊘ a) e ∙ over a (whole-num a w) (pos-units a w p) (pos-size a w p))) inf-nonneg
 
--- ---- 1e-9 of a magnitude
-redundant-parts : Parts (ofBits binary64 0x3e11_2e0b_e826_d695) false (4835703278458517 * 2 ^ 992)
-unfolding ofBits mags sign fits
-redundant-parts = record { num = (tt, tt); sgn = refl; mag = refl }
-
 pub pos-parts : (x : Float) (n : ℕ) → Parts x false n → pos 0 ⊑ units x
 pos-parts x n p = subst (λ (z : ℤ). pos 0 ⊑ z) (sym (parts-units x false n p)) zero-le
-
-pub redundant : {m : Float} → Whole m → pos 0 ⊑ int m → NonNeg (ofBits binary64 0x3e11_2e0b_e826_d695 ⊗ m)
-redundant {m} w h = product-nonneg (ofBits binary64 0x3e11_2e0b_e826_d695) m (redundant-parts .num) (whole-num m w) (pos-parts (ofBits binary64 0x3e11_2e0b_e826_d695) (4835703278458517 * 2 ^ 992) redundant-parts) (whole-nonneg m w h)
 
 -- ---- 1e-14 of a magnitude up to 2 ^ 45 is at most 3/8
 floor-parts : Parts (ofBits binary64 0x3d06_849b_86a1_2b9b) false (6338253001141147 * 2 ^ 975)

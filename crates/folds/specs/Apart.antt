@@ -2,18 +2,17 @@
 use Prim.Native.Nat.{ℕ, zero, suc, _+_, _-_, _≤_, _<_}
 use native.Mathlib.Omega.{arith}
 use native.Mathlib.Numerals.{add-one}
-use mathlib.Core.Path.{_≡_, refl, ap, sym, _∙_}
+use mathlib.Core.Path.{_≡_, refl, ap, _∙_}
 use mathlib.Core.Logic.{_≢_, _⊎_, inl, inr}
-use mathlib.Core.List.{List, [], _∷_}
-use mathlib.Core.Option.{Option, none, some}
+use mathlib.Core.List.{List}
+use mathlib.Core.Option.{Option, some}
 use lib.ListN.{length, getD, set}
-use lib.Seq.{getD-set-same, getD-set-other}
-use lib.Ieee.{Float}
+use lib.Seq.{getD-set-other}
 use Rattle.tolerances.specs.Tol.{Term, at}
 use Rattle.definition.specs.Model.{Model, from, upto, nnz, Row, Binding}
 use Rattle.space.specs.declared.Shape.{Shape}
 use Rattle.view.specs.Call.{Call}
-use Rattle.view.specs.Shows.{isOne, Parts, TermShown, BindingIs, BindingShown, unbound, isBound, RowShown}
+use Rattle.view.specs.Shows.{isOne, Parts, TermShown, BindingShown, unbound, isBound, RowShown}
 use Rattle.view.specs.Rows.{same?}
 
 -- p′ is p but for row r, whose span is a .. e

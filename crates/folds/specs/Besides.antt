@@ -1,12 +1,11 @@
 -- A row's rewritten binaries, and the magnitude of its folded terms but theirs: `fixed_besides`.
-use Prim.Native.Nat.{ℕ, zero, suc, _+_, _-_, _≤_, _<_}
+use Prim.Native.Nat.{ℕ, suc, _+_, _-_, _≤_, _<_}
 use native.Mathlib.Omega.{arith}
 use native.Mathlib.Numerals.{add-one}
-use mathlib.Core.Path.{_≡_, refl, ap, sym, _∙_, subst}
-use mathlib.Core.Bool.{Bool, true, false, _||_}
-use mathlib.Core.List.{List, [], _∷_, _++_}
+use mathlib.Core.Path.{_≡_, refl, ap, sym, _∙_}
+use mathlib.Core.Bool.{Bool, true, false}
+use mathlib.Core.List.{List, [], _∷_}
 use mathlib.Core.Option.{Option, none, some}
-use lib.Dec.{eqb}
 use lib.ListN.{length, getD, take, drop, length-append}
 use lib.Seq.{drop-cons, drop-length, ext-getD, getD-append-add}
 use lib.Ieee.{Float, nan}
@@ -18,7 +17,7 @@ use Rattle.definition.specs.Folds.{fixedBesidesFrom, fixedBesides}
 use Rattle.space.specs.declared.Shape.{Shape}
 use Rattle.space.specs.Store.{Floats, Numbers}
 use Rattle.view.specs.Call.{Call}
-use Rattle.view.specs.Shows.{Parts, partsOf, BindingIs, BindingShown, unbound, isBound, RowShown}
+use Rattle.view.specs.Shows.{Parts, BindingShown, unbound, isBound}
 use Rattle.view.specs.Known.{Spans}
 use Rattle.view.specs.Lists.{yes, no}
 use Rattle.folds.specs.Apart.{nnz-is}
@@ -26,7 +25,7 @@ use Rattle.folds.specs.Sized.{Sized}
 use Rattle.folds.specs.Written.{eqb-same, eqb-differ, span-length, span-at}
 use Rattle.folds.specs.Counting.{all-at}
 use Rattle.folds.specs.Stands.{Stands, Standing, Tells, TellsN}
-use Rattle.folds.specs.FoldStep.{in-model, in-rows, start-is, stop-is, folds-in}
+use Rattle.folds.specs.FoldStep.{in-model, in-rows, start-is, stop-is}
 
 -- the k numbers from place a on
 abbrev pub listed : ℕ → ℕ → List ℕ → List ℕ

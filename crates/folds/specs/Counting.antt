@@ -8,7 +8,7 @@ use mathlib.Core.List.{List, [], _∷_, _++_}
 use lib.Dec.{eqb, T, eqb→eq}
 use lib.ListN.{length, getD, set, take, length-set}
 use lib.Seq.{getD-set-same, getD-set-other}
-use lib.Ieee.{Float, eq}
+use lib.Ieee.{eq}
 use Rattle.floats.specs.Num.{0f}
 use Rattle.tolerances.specs.Tol.{Term}
 use Rattle.definition.specs.Work.{noTerm, hasTerm}

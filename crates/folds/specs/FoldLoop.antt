@@ -1,9 +1,8 @@
 -- The turns of `fold_fixed`'s loop together.
-use Prim.Native.Nat.{ℕ, zero, suc, _+_, _-_, _≤_, _<_}
+use Prim.Native.Nat.{ℕ, suc, _+_, _-_, _≤_, _<_}
 use native.Mathlib.Omega.{arith}
-use mathlib.Core.Path.{_≡_, refl, ap, sym, _∙_, subst}
-use mathlib.Core.Bool.{Bool, true, false}
-use mathlib.Core.List.{List, [], _∷_}
+use mathlib.Core.Path.{_≡_, ap, sym, _∙_, subst}
+use mathlib.Core.List.{List}
 use lib.ListN.{length, getD}
 use Rattle.definition.specs.Model.{Model, Row}
 use Rattle.definition.specs.Work.{Work}
@@ -14,7 +13,7 @@ use Rattle.view.specs.Call.{Call}
 use Rattle.view.specs.Known.{Spans}
 use Rattle.view.specs.Rows.{OneRow}
 use Rattle.folds.specs.Stands.{Stands, Standing, Turns, Tells, one-then, one-none, stands-after}
-use Rattle.folds.specs.Keeping.{FoldsTo, folds-inv, Looked, step-looked, turns-looked, loop-snoc, loop-folds}
+use Rattle.folds.specs.Keeping.{folds-inv, Looked, step-looked, turns-looked, loop-snoc}
 use Rattle.folds.specs.FoldStep.{Steps}
 
 -- after all turns but the last `left` of them, the next one at place i; k is how many there are

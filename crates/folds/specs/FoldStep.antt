@@ -1,5 +1,5 @@
 -- `fold_fixed`'s loop: what a turn leaves, by its three ways, and what the turns leave together.
-use Prim.Native.Nat.{ℕ, zero, suc, _+_, _-_, _≤_, _<_}
+use Prim.Native.Nat.{ℕ, suc, _+_, _-_, _≤_, _<_}
 use native.Mathlib.Omega.{arith}
 use native.Mathlib.Numerals.{add-one}
 use mathlib.Core.Path.{_≡_, refl, ap, sym, _∙_, subst}
@@ -8,17 +8,15 @@ use mathlib.Core.List.{List, [], _∷_, _++_}
 use lib.Dec.{eqb}
 use lib.ListN.{length, getD, List·getD-append, length-append}
 use lib.Ieee.{Float, nan, eq}
-use Rattle.floats.specs.Num.{choose, _⊗_, 0f, isFinite}
+use Rattle.floats.specs.Num.{_⊗_, 0f, isFinite}
 use Rattle.tolerances.specs.Tol.{Term, term, at, zipTerms}
 use Rattle.definition.specs.Model.{Model, from, upto, nnz, written, Row, withTerms}
 use Rattle.definition.specs.Work.{Work, noTerm, fixed, hasTerm}
-use Rattle.definition.specs.Folds.{swapRemove, foldTerm, foldStep, foldLoop}
+use Rattle.definition.specs.Folds.{swapRemove, foldTerm, foldStep}
 use Rattle.space.specs.declared.Shape.{Shape}
 use Rattle.space.specs.Store.{Floats, Numbers}
 use Rattle.view.specs.Call.{Call}
-use Rattle.view.specs.Shows.{Shows}
-use Rattle.view.specs.Inv.{Inv, RowInv}
-use Rattle.view.specs.Acts.{Reads, Any}
+use Rattle.view.specs.Acts.{Reads}
 use Rattle.view.specs.Known.{Spans}
 use Rattle.view.specs.Lists.{yes, no}
 use Rattle.view.specs.Rows.{OneRow}
@@ -28,7 +26,6 @@ use Rattle.folds.specs.Written.{span-at, indices}
 use Rattle.folds.specs.Counting.{true-false, eqb-true, all-at}
 use Rattle.folds.specs.Stands.{Stands, Standing, Turns, Tells, one-then, one-none, stands-after}
 use Rattle.folds.specs.Folding.{swapF, swapN, pushF, pushN, shiftF, withFolded, shifted, swap-length, swap-one, push-one, shift-one}
-use Rattle.folds.specs.Keeping.{FoldsTo, folds-inv, Looked, step-looked, turns-looked, loop-snoc}
 
 -- `fixed`, of the blocks
 unfoldable pub fixedIn : Floats → ℕ → Bool

@@ -1,24 +1,22 @@
 -- One term leaves a row, in the slices: the last live term moves into its place, and a folded one goes to the back of the span.
-use Prim.Native.Nat.{ℕ, zero, suc, _+_, _-_, _≤_, _<_}
+use Prim.Native.Nat.{ℕ, suc, _+_, _-_, _≤_, _<_}
 use native.Mathlib.Omega.{arith}
-use native.Mathlib.Numerals.{add-one}
-use mathlib.Core.Path.{_≡_, refl, ap, sym, _∙_, subst}
+use mathlib.Core.Path.{_≡_, refl, ap, sym, _∙_}
 use mathlib.Core.Logic.{_≢_, _⊎_, inl, inr}
 use mathlib.Core.Option.{Option, none, some}
-use mathlib.Core.Bool.{Bool, true, false, _&&_}
 use mathlib.Core.List.{List, [], _∷_, _++_}
-use lib.ListN.{length, getD, set, take, length-set, length-take, length-append, List·getD-append}
-use lib.Seq.{getD-set-same, getD-set-other, getD-take, getD-append-seam, getD-at}
-use lib.Ieee.{Float, nan, eq}
-use Rattle.floats.specs.Num.{choose, _⊕_, _⊖_, _⊗_, 0f, isFinite, abs}
+use lib.ListN.{length, getD, set, length-set, length-take, length-append, List·getD-append}
+use lib.Seq.{getD-set-same, getD-set-other, getD-take, getD-at}
+use lib.Ieee.{Float, nan}
+use Rattle.floats.specs.Num.{_⊕_, _⊖_, abs}
 use Rattle.tolerances.specs.Tol.{Term, term, at}
 use Rattle.definition.specs.Model.{Model, from, upto, nnz, Row, Binding, withTerms}
-use Rattle.definition.specs.Work.{Work, noTerm, fixed}
-use Rattle.definition.specs.Folds.{swapRemove, foldTerm, foldStep}
+use Rattle.definition.specs.Work.{Work, noTerm}
+use Rattle.definition.specs.Folds.{swapRemove}
 use Rattle.space.specs.declared.Shape.{Shape}
 use Rattle.space.specs.Store.{Floats, Numbers, put-lo, put-hi, put-foldScale, put-shift, put-coeffs, put-len, put-folded, put-vars}
 use Rattle.view.specs.Call.{Call}
-use Rattle.view.specs.Shows.{isOne, Parts, partsOf, TermShown, BindingIs, BindingShown, unbound, isBound, RowShown}
+use Rattle.view.specs.Shows.{Parts, partsOf, TermShown, BindingShown, unbound, isBound, RowShown}
 use Rattle.view.specs.Rows.{same?, OneRow}
 use Rattle.folds.specs.Apart.{Apart, elsewhere, untouched, within, outside, nnz-is, other-shown}
 use Rattle.folds.specs.Sized.{Sized}

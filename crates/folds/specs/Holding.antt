@@ -3,26 +3,26 @@ use Prim.Native.Nat.{ℕ, zero, suc, _+_, _-_, _≤_, _<_}
 use native.Mathlib.Omega.{arith}
 use mathlib.Core.Path.{_≡_, refl, ap, sym, _∙_, subst}
 use mathlib.Core.Bool.{Bool, true, false, not, _&&_}
-use mathlib.Core.List.{List, [], _∷_}
+use mathlib.Core.List.{List}
 use mathlib.Core.Option.{Option, none, some}
 use lib.Dec.{ltb, T, lt→ltb, ltb→lt}
 use lib.ListN.{length, getD}
 use lib.Ieee.{Float, nan}
-use Rattle.floats.specs.Num.{choose, isFinite}
+use Rattle.floats.specs.Num.{isFinite}
 use Rattle.definition.specs.Model.{Model, Row, Binding, asWritten}
 use Rattle.definition.specs.Work.{Work}
-use Rattle.definition.specs.Folds.{foldLoop, bound?, givesBack, relaxBinding, givenBack, holdRewrites, foldFixed}
+use Rattle.definition.specs.Folds.{foldLoop, bound?, givesBack, relaxBinding, holdRewrites, foldFixed}
 use Rattle.space.specs.declared.Shape.{Shape}
 use Rattle.space.specs.Store.{Floats, Numbers}
 use Rattle.view.specs.Call.{Call}
-use Rattle.view.specs.Shows.{Parts, partsOf, BindingIs, BindingShown, unbound, isBound, RowShown}
+use Rattle.view.specs.Shows.{Parts, BindingShown, unbound, isBound}
 use Rattle.view.specs.Known.{Spans, Written, written-spans}
 use Rattle.view.specs.Lists.{yes, no}
 use Rattle.view.specs.Rows.{OneRow}
 use Rattle.folds.specs.Written.{Given, Writes}
 use Rattle.folds.specs.Stands.{Stands, Standing, Turns, Tells, one-then, one-none, stands-after, standing-under, turns-under}
-use Rattle.folds.specs.Keeping.{FoldsTo, loop-folds}
-use Rattle.folds.specs.Relaxing.{Bound, bound-of, unbound-is}
+use Rattle.folds.specs.Keeping.{loop-folds}
+use Rattle.folds.specs.Relaxing.{bound-of, unbound-is}
 use Rattle.folds.specs.WrittenInv.{as-written-inv, as-written-alive, as-written-unbound}
 use Rattle.folds.specs.Kept.{Kept, folds-kept, relax-kept, gives-none, given-again}
 

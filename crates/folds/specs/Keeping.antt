@@ -1,19 +1,19 @@
 -- Folding keeps a row's invariant: terms leave or move to the folded ones, and none comes in.
 use Prim.Native.Nat.{ℕ, zero, suc, _+_, _-_, _≤_, _<_}
 use native.Mathlib.Omega.{arith}
-use mathlib.Core.Path.{_≡_, refl, ap, sym, _∙_, subst}
+use mathlib.Core.Path.{_≡_, refl, sym, _∙_}
 use mathlib.Core.Bool.{Bool, true, false, not, _&&_}
 use mathlib.Core.List.{List, [], _∷_, _++_}
-use mathlib.Core.Option.{Option, none, some}
+use mathlib.Core.Option.{Option, none}
 use lib.Dec.{eqb}
 use lib.ListN.{length, getD, length-append}
-use lib.Ieee.{Float, eq}
-use Rattle.floats.specs.Num.{choose, 0f}
+use lib.Ieee.{eq}
+use Rattle.floats.specs.Num.{0f}
 use Rattle.tolerances.specs.Tol.{Term}
-use Rattle.definition.specs.Model.{Model, Row, Binding, written, withTerms}
-use Rattle.definition.specs.Work.{Work, noTerm, fixed, hasTerm}
+use Rattle.definition.specs.Model.{Model, Row, Binding, withTerms}
+use Rattle.definition.specs.Work.{Work, noTerm, fixed}
 use Rattle.definition.specs.Folds.{swapRemove, foldTerm, foldStep, foldLoop}
-use Rattle.view.specs.Inv.{Distinct, AllIn, BinariesIn, binariesIn[], binariesIn∷, BindingIn, noneIn, someIn, RowInv, hasNonzero}
+use Rattle.view.specs.Inv.{BinariesIn, binariesIn[], binariesIn∷, BindingIn, noneIn, someIn, RowInv}
 use Rattle.view.specs.Lists.{either}
 use Rattle.folds.specs.Counting.{true-false, bit, countBy, count-append, count-swap, or-count, count-or, isVar, isNonzero, nonzero-or, distinct-count, count-distinct, allIn-count, count-allIn}
 use Rattle.folds.specs.Folding.{swap-length}

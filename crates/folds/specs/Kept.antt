@@ -1,9 +1,8 @@
 -- What `fold_fixed` keeps: a row that is alive stays alive, its invariant, and its room in its span.
-use Prim.Native.Nat.{ℕ, zero, suc, _+_, _-_, _≤_, _<_}
+use Prim.Native.Nat.{ℕ, _+_, _-_, _≤_, _<_}
 use native.Mathlib.Omega.{arith}
 use mathlib.Core.Path.{_≡_, refl, ap, sym, _∙_, subst}
-use mathlib.Core.Bool.{Bool, true, false, not, _&&_}
-use mathlib.Core.List.{List, [], _∷_, _++_}
+use mathlib.Core.Bool.{Bool, true, false}
 use mathlib.Core.Option.{Option, none, some}
 use lib.Dec.{ltb}
 use lib.ListN.{length, getD}
@@ -14,9 +13,9 @@ use Rattle.definition.specs.Work.{Work, withRow, noRow}
 use Rattle.definition.specs.Folds.{foldLoop, bound?, givesBack, withKept, widened, rewriteRoom, fixedBesides, relaxWith, relaxBinding, givenBack, holdRewrites, foldFixed}
 use Rattle.space.specs.declared.Shape.{Shape}
 use Rattle.view.specs.Call.{Call}
-use Rattle.view.specs.Inv.{BinariesIn, BindingIn, noneIn, someIn, RowInv, Inv}
+use Rattle.view.specs.Inv.{BinariesIn, BindingIn, someIn, RowInv}
 use Rattle.view.specs.Acts.{Keeps}
-use Rattle.view.specs.Lists.{yes, no, either}
+use Rattle.view.specs.Lists.{no, either}
 use Rattle.view.specs.Rows.{inv-row}
 use Rattle.folds.specs.Written.{written-length}
 use Rattle.folds.specs.Keeping.{FoldsTo, folds-inv, binaries-too, loop-folds}

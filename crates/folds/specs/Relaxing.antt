@@ -1,29 +1,28 @@
 -- `relax_binding`: what a binding keeps grows with the folded terms, and the bound that it keeps grows with it.
-use Prim.Native.Nat.{ℕ, zero, suc, _+_, _-_, _≤_, _<_}
+use Prim.Native.Nat.{ℕ, _-_, _<_}
 use native.Mathlib.Omega.{arith}
 use mathlib.Core.Path.{_≡_, refl, ap, sym, _∙_, subst}
 use mathlib.Core.Bool.{Bool, true, false}
-use mathlib.Core.List.{List, [], _∷_}
+use mathlib.Core.List.{List}
 use mathlib.Core.Option.{Option, none, some}
-use lib.ListN.{length, getD, set}
+use lib.ListN.{length, getD}
 use lib.Seq.{getD-set-same}
 use lib.Ieee.{Float, nan, lt}
 use Rattle.floats.specs.Num.{choose, _⊕_, _⊖_, gt, isFinite}
-use Rattle.tolerances.specs.Tol.{Term, at}
-use Rattle.definition.specs.Model.{Model, from, upto, nnz, Row, Binding, withRange, withBinding}
+use Rattle.tolerances.specs.Tol.{at}
+use Rattle.definition.specs.Model.{Model, from, upto, Row, Binding, withRange, withBinding}
 use Rattle.definition.specs.Work.{Work}
 use Rattle.definition.specs.Folds.{widened, withKept, rewriteRoom, fixedBesides, relaxWith, relaxBinding}
 use Rattle.space.specs.declared.Shape.{Shape}
 use Rattle.space.specs.Store.{Floats, Numbers, put-lo, put-hi, put-kept}
 use Rattle.view.specs.Call.{Call}
-use Rattle.view.specs.Shows.{Parts, partsOf, TermShown, BindingIs, BindingShown, unbound, isBound, RowShown}
+use Rattle.view.specs.Shows.{Parts, partsOf, BindingIs, BindingShown, unbound, isBound, RowShown}
 use Rattle.view.specs.Known.{Spans}
 use Rattle.view.specs.Lists.{yes, no}
 use Rattle.view.specs.Rows.{OneRow}
 use Rattle.formulas.specs.Bare.{ByTol}
 use Rattle.folds.specs.Apart.{Apart, elsewhere, untouched, outside, other-shown}
-use Rattle.folds.specs.Sized.{Sized}
-use Rattle.folds.specs.Stands.{Stands, Standing, Turns, Tells, one-then, one-none, stands-after}
+use Rattle.folds.specs.Stands.{Stands, Turns, Tells, one-then, one-none, stands-after}
 use Rattle.folds.specs.Folding.{binding-same}
 use Rattle.folds.specs.Besides.{binariesOf}
 

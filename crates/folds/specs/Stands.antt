@@ -2,9 +2,8 @@
 use Prim.Native.Nat.{ℕ, _<_}
 use native.Mathlib.Omega.{arith}
 use mathlib.Core.Path.{_≡_, refl, ap, sym, _∙_}
-use mathlib.Core.Logic.{_≢_}
 use mathlib.Core.List.{List}
-use mathlib.Core.Bool.{Bool, true, false}
+use mathlib.Core.Bool.{true}
 use lib.ListN.{length, getD}
 use Rattle.definition.specs.Model.{Model, Row}
 use Rattle.definition.specs.Work.{Work, withRow, noRow}
@@ -12,7 +11,7 @@ use Rattle.space.specs.declared.Shape.{Shape}
 use Rattle.space.specs.Store.{Floats, Numbers}
 use Rattle.view.specs.Call.{Call}
 use Rattle.view.specs.Shows.{isOne, Shows, partsOf, RowShown}
-use Rattle.view.specs.Inv.{RowInv, Inv}
+use Rattle.view.specs.Inv.{RowInv}
 use Rattle.view.specs.Acts.{Ready, Acts, Reads}
 use Rattle.view.specs.Lists.{one-is}
 use Rattle.view.specs.Rows.{OneRow, shows-row}

@@ -1,19 +1,18 @@
 -- The row as written, put into the slices: `Row::as_written`.
 use Prim.Native.Nat.{ℕ, zero, suc, _+_, _-_, _≤_, _<_}
 use native.Mathlib.Omega.{arith}
-use native.Mathlib.Numerals.{add-one}
 use mathlib.Core.Path.{_≡_, refl, ap, sym, _∙_, subst}
 use mathlib.Core.Logic.{_≢_, _⊎_, inl, inr}
-use mathlib.Core.Bool.{Bool, true, false}
+use mathlib.Core.Bool.{true, false}
 use mathlib.Core.List.{List, [], _∷_}
 use lib.Dec.{eqb, eqb·suc-suc, eqb·suc-zero, eqb·zero-suc}
-use lib.ListN.{length, getD, set, take, drop, length-set, length-take, length-drop}
+use lib.ListN.{length, getD, set, take, drop, length-take, length-drop}
 use lib.Seq.{getD-set-same, getD-set-other, getD-take, getD-drop}
 use lib.Ieee.{Float, nan, neg, ofBits}
 use Rattle.floats.specs.Num.{choose, 0f, ∞f, -∞f}
-use Rattle.tolerances.specs.Tol.{Term, term, at, zipTerms}
+use Rattle.tolerances.specs.Tol.{term, at, zipTerms}
 use Rattle.definition.specs.Model.{Model, from, upto, nnz, written, opOf, rhsOf, Row, asWritten}
-use Rattle.definition.specs.Work.{Work, withRow, noTerm}
+use Rattle.definition.specs.Work.{withRow, noTerm}
 use Rattle.space.specs.declared.Shape.{Shape}
 use Rattle.space.specs.Store.{Floats, Numbers, put-lo, put-hi, put-foldScale, put-shift, put-coeffs, put-len, put-folded, put-alive, put-touched, put-binaries, put-vars}
 use Rattle.view.specs.Call.{Call}

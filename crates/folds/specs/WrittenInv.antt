@@ -1,21 +1,21 @@
 -- The row as written has the invariant: its indices rise.
-use Prim.Native.Nat.{ℕ, zero, suc, _+_, _-_, _≤_, _<_}
+use Prim.Native.Nat.{ℕ, suc, _+_, _-_, _<_}
 use native.Mathlib.Omega.{arith}
-use mathlib.Core.Path.{_≡_, refl, ap, sym, _∙_, subst}
-use mathlib.Core.Bool.{Bool, true, false, _||_}
+use mathlib.Core.Path.{_≡_, refl}
+use mathlib.Core.Bool.{Bool, true, false}
 use mathlib.Core.List.{List, [], _∷_, _++_}
-use mathlib.Core.Option.{Option, none, some}
+use mathlib.Core.Option.{none}
 use lib.Dec.{eqb}
-use lib.ListN.{length, getD, take, drop}
+use lib.ListN.{length, getD}
 use lib.Ieee.{Float}
-use Rattle.tolerances.specs.Tol.{Term, term, zipTerms}
-use Rattle.definition.specs.Model.{Model, from, upto, nnz, written, Row, asWritten}
+use Rattle.tolerances.specs.Tol.{Term, zipTerms}
+use Rattle.definition.specs.Model.{Model, from, nnz, written, asWritten}
 use Rattle.definition.specs.Work.{hasTerm}
 use Rattle.space.specs.declared.Shape.{Shape}
 use Rattle.view.specs.Call.{Call}
-use Rattle.view.specs.Inv.{Distinct, distinct[], distinct∷, AllIn, noneIn, RowInv}
+use Rattle.view.specs.Inv.{Distinct, distinct[], distinct∷, noneIn, RowInv}
 use Rattle.folds.specs.Apart.{nnz-is}
-use Rattle.folds.specs.Written.{eqb-differ, span-at, indices, written-length}
+use Rattle.folds.specs.Written.{eqb-differ, span-at, indices}
 use Rattle.folds.specs.Counting.{countBy, count-append, isVar, count-has, distinct-count, count-distinct, count-allIn}
 
 abbrev Rising : List ℕ → Type 0

@@ -1,6 +1,5 @@
 // `fold_fixed` and `hold_rewrites`: a row is folded, a rewritten one relaxed, and one whose rewrites left
 // it no finite side is given back as written.
-ghost use mathlib.Core.Path.{_≡_};
 ghost use Prim.Native.Nat.{_<_};
 ghost use Rattle.definition.specs.Folds.{foldFixed};
 ghost use Rattle.space.specs.Store.{floatsOf, numbersOf, HoldsF, HoldsN};

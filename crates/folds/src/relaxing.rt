@@ -1,5 +1,4 @@
 // `relax_binding`: what a rewritten row's binding keeps grows with the terms folded out of it.
-ghost use mathlib.Core.Path.{_≡_};
 ghost use Prim.Native.Nat.{_<_};
 ghost use Rattle.definition.specs.Folds.{relaxBinding};
 ghost use Rattle.space.specs.Store.{floatsOf, numbersOf, HoldsF, HoldsN};

@@ -7,12 +7,12 @@ use mathlib.Core.Logic.{_≢_}
 use mathlib.Core.Bool.{Bool, true, false, _||_}
 use mathlib.Core.List.{List, [], _∷_, _++_}
 use lib.Dec.{eqb}
-use lib.ListN.{length, getD, set, drop, drop-of-length-le, length-append, List·getD-append}
+use lib.ListN.{length, getD, drop, drop-of-length-le, length-append, List·getD-append}
 use lib.Seq.{drop-cons, getD-set-other}
 use lib.Ieee.{Float, nan}
 use borrow.Author.Tests.{eq-eqb}
 use Rattle.tolerances.specs.Tol.{Term, term, at}
-use Rattle.definition.specs.Model.{Model, Row}
+use Rattle.definition.specs.Model.{Model}
 use Rattle.definition.specs.Work.{Work, noTerm, hasTerm}
 use Rattle.definition.specs.Bounds.{fix}
 use Rattle.definition.specs.Forcing.{corner, fixAll}
@@ -21,7 +21,7 @@ use Rattle.space.specs.Store.{Floats, Numbers}
 use Rattle.formulas.specs.Forcing.{cornerOf, corner-of}
 use Rattle.view.specs.Shows.{Shows}
 use Rattle.view.specs.Inv.{Inv, Distinct, distinct[], distinct∷}
-use Rattle.view.specs.Acts.{Ready, Acts, Keeps}
+use Rattle.view.specs.Acts.{Acts, Keeps}
 use Rattle.view.specs.Known.{Spans}
 use Rattle.view.specs.Bounds.{elo-is, ehi-is}
 use Rattle.bounds.specs.Moves.{inv-fix}

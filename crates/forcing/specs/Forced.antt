@@ -5,22 +5,21 @@ use native.Mathlib.Numerals.{add-one}
 use mathlib.Core.Path.{_≡_, refl, ap, sym, _∙_}
 use mathlib.Core.Bool.{Bool, true, false, _&&_}
 use mathlib.Core.List.{List, [], _∷_}
-use lib.Dec.{eqb}
 use lib.ListN.{length, getD, drop, drop-of-length-le}
 use lib.Seq.{drop-cons}
 use lib.Ieee.{Float, nan}
 use borrow.Author.Tests.{eq-eqb, ne-eqb}
 use Rattle.floats.specs.Num.{_⊖_}
-use Rattle.tolerances.specs.Tol.{Term, term, at}
+use Rattle.tolerances.specs.Tol.{Term, term}
 use Rattle.definition.specs.declared.Activity.{Activity}
-use Rattle.definition.specs.Model.{Model, Row, isInt}
+use Rattle.definition.specs.Model.{Model, isInt}
 use Rattle.definition.specs.Work.{Work, noTerm}
 use Rattle.definition.specs.Sides.{magL, magU, nearMin, nearMax}
 use Rattle.definition.specs.Forcing.{forcedTerm, allForced, forcingAt, forcesMin, forcesMax}
 use Rattle.space.specs.declared.Shape.{Shape}
 use Rattle.space.specs.Store.{Floats, Numbers}
 use Rattle.formulas.specs.declared.Limits.{Limits}
-use Rattle.formulas.specs.Bare.{bare, Has, Says, near-min-of, near-max-of, mag-l-of, mag-u-of}
+use Rattle.formulas.specs.Bare.{bare, Says, near-min-of, near-max-of, mag-l-of, mag-u-of}
 use Rattle.formulas.specs.Forcing.{forcedBy, forced-of, sliverFits, forcing-of}
 use Rattle.view.specs.Call.{Call}
 use Rattle.view.specs.Shows.{Shows}
@@ -30,7 +29,7 @@ use Rattle.view.specs.Known.{Spans}
 use Rattle.view.specs.Bounds.{elo-is, ehi-is}
 use Rattle.readers.specs.Reading.{rowOf, Alive, ReadsF, ReadsM, Domains}
 use Rattle.readers.specs.Limits.{ReadsLimits}
-use Rattle.readers.specs.RowAt.{RowAt, row-at, row-ready, live-place}
+use Rattle.readers.specs.RowAt.{row-at, row-ready, live-place}
 use Rattle.rows.specs.Knowing.{Looks, looks-spans, looks-domains, of-call}
 
 -- ---- forced_term

@@ -6,6 +6,7 @@ pub mod Moves
 pub mod Folding
 pub mod Singles
 pub mod Implied
+pub mod Stays
 pub mod Forcing
 pub mod Rewriting
 pub mod Fixing

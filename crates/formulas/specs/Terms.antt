@@ -1,12 +1,12 @@
 -- A term's part in an activity, by numbers alone.
-use Prim.Native.Nat.{ℕ, suc, _+_, _%_, _^_, _≤_, _<_}
-use mathlib.Core.Path.{_≡_, _∙_}
+use Prim.Native.Nat.{ℕ, suc, _+_, _%_, _^_, _<_}
+use mathlib.Core.Path.{_≡_, refl, _∙_}
 use native.Mathlib.Numerals.{add-one}
 use native.Mathlib.Nat.{mod-eq-of-lt}
-use native.Mathlib.Omega.{arith}
 use mathlib.Core.Bool.{Bool, true, false}
 use lib.Ieee.{Float, lt}
 use Rattle.floats.specs.Num.{choose, _⊕_, _⊗_, gt, 0f, isFinite, abs}
+use Rattle.floats.specs.Compare.{lt-turns}
 use Rattle.tolerances.specs.Tol.{Term}
 use Rattle.definition.specs.declared.Activity.{Activity}
 use Rattle.definition.specs.Model.{Model, rangeMin, rangeMax}
@@ -56,29 +56,31 @@ withSlacks k j act =
       slackU = act .slackU ⊕ j;
     }
 
+-- tolLo and tolHi are the tolerances of the two bounds: the term takes the upper one at the minimum corner if its coefficient is negative, at the maximum corner if it is positive
 unfoldable pub stepOf : Float → Float → Float → Float → Float → Activity → Activity
-stepOf a lo hi tolL tolU act = withSlacks (abs a ⊗ tolL) (abs a ⊗ tolU) (withMax (rangeMax a lo hi) (withMin (rangeMin a lo hi) act))
+stepOf a lo hi tolLo tolHi act =
+    withSlacks (abs a ⊗ choose (lt a 0f) tolHi tolLo) (abs a ⊗ choose (gt a 0f) tolHi tolLo) (withMax (rangeMax a lo hi) (withMin (rangeMin a lo hi) act))
 
--- where the counts stay below a usize's range, that is the definition's step at the tolerances of the bounds that the term takes
+-- by the sign of the coefficient
+module _ (a lo hi tolLo tolHi : Float) (act : Activity) where
+  pub step-positive : gt a 0f ≡ true → stepOf a lo hi tolLo tolHi act ≡ withSlacks (abs a ⊗ tolLo) (abs a ⊗ tolHi) (withMax (a ⊗ hi) (withMin (a ⊗ lo) act))
+  unfolding stepOf rangeMin rangeMax choose
+  step-positive e = rw (e, lt-turns 0f a e)
+
+  pub step-other : gt a 0f ≡ false → stepOf a lo hi tolLo tolHi act ≡ withSlacks (abs a ⊗ choose (lt a 0f) tolHi tolLo) (abs a ⊗ tolLo) (withMax (a ⊗ lo) (withMin (a ⊗ hi) act))
+  unfolding stepOf rangeMin rangeMax choose
+  step-other e = rw e
+
+-- where the counts stay below a usize's range, that is the definition's step
 more-is : (n : ℕ) → n + 1 < 2 ^ 64 → more n ≡ suc n
 more-is n h = mod-eq-of-lt h ∙ add-one n
 
-pub step-of : (M : Model) (w : Work) (lo hi : Float) (t : Term) (act : Activity) → act .ninfL + 1 < 2 ^ 64 → act .ninfU + 1 < 2 ^ 64
-    → stepOf (t .coeff) lo hi (boundTol M w (t .var) (lt (t .coeff) 0f)) (boundTol M w (t .var) (gt (t .coeff) 0f)) act ≡ activityStep M w lo hi t act
-unfolding stepOf withMin withMax activityStep
-step-of M w lo hi t act h k = rw (more-is (act .ninfL) h, more-is (act .ninfU) k)
-
--- a term adds one infinite part to a corner at most
-grows : (b : Bool) (n : ℕ) → choose b n (suc n) ≤ suc n
+tol-by : (M : Model) (w : Work) (v : ℕ) (b : Bool) → choose b (boundTol M w v true) (boundTol M w v false) ≡ boundTol M w v b
 unfolding choose
-grows true n = omega arith
-grows false n = omega arith
+tol-by M w v true = refl
+tol-by M w v false = refl
 
-module _ (M : Model) (w : Work) (lo hi : Float) (t : Term) (act : Activity) where
-  pub count-l-grows : activityStep M w lo hi t act .ninfL ≤ suc (act .ninfL)
-  unfolding activityStep
-  count-l-grows = grows (isFinite (rangeMin (t .coeff) lo hi)) (act .ninfL)
-
-  pub count-u-grows : activityStep M w lo hi t act .ninfU ≤ suc (act .ninfU)
-  unfolding activityStep
-  count-u-grows = grows (isFinite (rangeMax (t .coeff) lo hi)) (act .ninfU)
+pub step-of : (M : Model) (w : Work) (lo hi : Float) (t : Term) (act : Activity) → act .ninfL + 1 < 2 ^ 64 → act .ninfU + 1 < 2 ^ 64
+    → stepOf (t .coeff) lo hi (boundTol M w (t .var) false) (boundTol M w (t .var) true) act ≡ activityStep M w lo hi t act
+unfolding stepOf withMin withMax activityStep
+step-of M w lo hi t act h k = rw (tol-by M w (t .var) (lt (t .coeff) 0f), tol-by M w (t .var) (gt (t .coeff) 0f), more-is (act .ninfL) h, more-is (act .ninfU) k)

@@ -1,5 +1,7 @@
 // A row's activity, term by term.
 ghost use mathlib.Core.Path.{_≡_};
+ghost use lib.Ieee.{lt};
+ghost use Rattle.floats.specs.Num.{choose, 0f};
 ghost use Rattle.definition.specs.Model as model;
 ghost use Rattle.definition.specs.Activities.{noActivity};
 ghost use Rattle.formulas.specs.Terms.{withMin, withMax, withSlacks, stepOf};
@@ -110,13 +112,31 @@ fn add_slacks(act: Activity, slackL: f64, slackU: f64) -> Activity
     }
 }
 
-// One term more: its coefficient, its variable's bounds, and the tolerances of the bounds that it
-// takes at the two corners.
-pub fn activity_step(act: Activity, a: f64, lo: f64, hi: f64, tolL: f64, tolU: f64) -> Activity
-    ensures { λ z. ⌜ z ≡ stepOf a lo hi tolL tolU act ⌝ }
+// A term's parts at both corners, and its slacks there.
+fn add_term(act: Activity, cmin: f64, cmax: f64, slackL: f64, slackU: f64) -> Activity
+    ensures { λ z. ⌜ z ≡ withSlacks slackL slackU (withMax cmax (withMin cmin act)) ⌝ }
 {
-    let least = add_min(act, range_min(a, lo, hi));
-    let both = add_max(least, range_max(a, lo, hi));
+    let least = add_min(act, cmin);
+    let both = add_max(least, cmax);
+    add_slacks(both, slackL, slackU)
+}
+
+// The tolerance of the bound that a term takes at the minimum corner.
+fn tol_min(a: f64, tolLo: f64, tolHi: f64) -> f64
+    ensures { λ z. ⌜ z ≡ choose (lt a 0f) tolHi tolLo ⌝ }
+{
+    if a < 0.0 { tolHi } else { tolLo }
+}
+
+// One term more: its coefficient, its variable's bounds, and their tolerances. One jump by the sign costs less than a choice
+// for each corner.
+pub fn activity_step(act: Activity, a: f64, lo: f64, hi: f64, tolLo: f64, tolHi: f64) -> Activity
+    ensures { λ z. ⌜ z ≡ stepOf a lo hi tolLo tolHi act ⌝ }
+{
     let p = floats::absolute(a);
-    add_slacks(both, p * tolL, p * tolU)
+    if a > 0.0 {
+        return add_term(act, a * lo, a * hi, p * tolLo, p * tolHi);
+    }
+    let least = tol_min(a, tolLo, tolHi);
+    add_term(act, a * hi, a * lo, p * least, p * tolLo)
 }

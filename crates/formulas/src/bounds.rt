@@ -1,6 +1,8 @@
 // What an implied bound does to its variable: nothing, a proof that no point is left, or a new bound.
 ghost use mathlib.Core.Path.{_≡_};
+ghost use mathlib.Core.Bool.{true};
 ghost use Rattle.formulas.specs.Moves as moves;
+ghost use Rattle.formulas.specs.Stays.{UpperStays, LowerStays};
 use crate::Move;
 use crate::params::IMPROVE_REL;
 
@@ -59,6 +61,26 @@ pub fn lower_real_move(nq: f64, wlo: f64, whi: f64, tol: f64) -> Move
         return Move::Tighten;
     }
     Move::Leave
+}
+
+// Whether an implied bound q leaves its variable as it is, whatever it is relaxed by: most of them do, and then what it is relaxed
+// by need not be computed.
+pub fn upper_stays(int: bool, q: f64, ehi: f64, whi: f64) -> bool
+    ensures { λ z. ⌜ (z ≡ true → UpperStays int q ehi whi) ⌝ }
+{
+    if int {
+        return floats::floor(q) >= ehi - 0.5;
+    }
+    q >= whi
+}
+
+pub fn lower_stays(int: bool, q: f64, elo: f64, wlo: f64) -> bool
+    ensures { λ z. ⌜ (z ≡ true → LowerStays int q elo wlo) ⌝ }
+{
+    if int {
+        return floats::ceil(q) <= elo + 0.5;
+    }
+    q <= wlo
 }
 
 // `emit_bounds`: whether it tightens, and the working bounds that it leaves.

@@ -1,8 +1,10 @@
 // The implied bound of a term from one side of its row.
 ghost use mathlib.Core.Path.{_≡_};
+ghost use mathlib.Core.Bool.{true};
 ghost use Rattle.definition.specs.Implied as implied;
 ghost use Rattle.formulas.specs.Bare.{bare, Says};
 ghost use Rattle.formulas.specs.Implied.{restIs, hiOf, loOf, boundsAbove, quotientOf, relaxOf};
+ghost use Rattle.formulas.specs.Stays.{Relaxes};
 use crate::Limits;
 use crate::Rest;
 use crate::Side;
@@ -87,4 +89,16 @@ pub fn relaxation(feas: f64, terms: usize, x: Limits, side: Side, c: f64, rest: 
         + floats::absolute(side.bound - rest)
         + x.foldScale;
     (budget(feas, terms, m) + ROUNDOFF_FLOOR * side.abs + side.slack) / floats::absolute(a)
+}
+
+// Whether that is not negative, whatever the row's magnitude is.
+pub fn relaxes(feas: f64, abs: f64, slack: f64) -> bool
+    ensures { λ z. ⌜ (z ≡ true → Relaxes feas abs slack) ⌝ }
+{
+    if feas >= 0.0 {
+        if abs >= 0.0 {
+            return slack >= 0.0;
+        }
+    }
+    false
 }

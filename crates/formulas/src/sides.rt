@@ -5,7 +5,6 @@ ghost use Rattle.definition.specs.Model.{rhsMag};
 ghost use Rattle.definition.specs.Work as work;
 ghost use Rattle.definition.specs.Sides as sides;
 ghost use Rattle.formulas.specs.Bare.{bare, Says, ByParams};
-ghost use Rattle.formulas.specs.Reduce.{mayReduce};
 use crate::Limits;
 use crate::params::REDUNDANT_MARGIN;
 use definition::Activity;
@@ -73,15 +72,6 @@ pub fn below_lo(feas: f64, terms: usize, x: Limits, act: Activity) -> bool
         return act.u + act.slackU < x.lo - budget(feas, terms, mag_u(x, act));
     }
     false
-}
-
-pub fn unreachable(feas: f64, terms: usize, x: Limits, act: Activity) -> bool
-    ensures { λ z. ⌜ Says feas terms z (λ M r. sides.unreachable M r (bare x) act) ⌝ }
-{
-    if above_hi(feas, terms, x, act) {
-        return true;
-    }
-    below_lo(feas, terms, x, act)
 }
 
 // Forcing, the precheck over the working bounds.
@@ -170,18 +160,4 @@ pub fn redundant(x: Limits, wact: Activity, e: Activity) -> bool
         return within_by(REDUNDANT_MARGIN * floats::larger(mag_both(x, e), 1.0), x, e);
     }
     false
-}
-
-// Whether the working activity lets the row be forcing or redundant: where it does not, nobody has
-// to look at the emitted one.
-pub fn may_reduce(feas: f64, terms: usize, x: Limits, wact: Activity) -> bool
-    ensures { λ z. ⌜ Says feas terms z (λ M r. mayReduce M r (bare x) wact) ⌝ }
-{
-    if near_min(feas, terms, x, wact) {
-        return true;
-    }
-    if near_max(feas, terms, x, wact) {
-        return true;
-    }
-    within(x, wact)
 }

@@ -10,7 +10,7 @@ use lib.Ieee.{Float, nan}
 use Rattle.tolerances.specs.Tol.{Term, term}
 use Rattle.definition.specs.declared.Activity.{Activity}
 use Rattle.definition.specs.Model.{Model, Row}
-use Rattle.definition.specs.Work.{Work, Step, stop, next, _>>=_, noTerm}
+use Rattle.definition.specs.Work.{Work, Step, next, _>>=_, noTerm}
 use Rattle.definition.specs.Implied.{impliedTerm, impliedBounds}
 use Rattle.space.specs.declared.Shape.{Shape}
 use Rattle.space.specs.declared.Step.the-variants.{Stop, Next}
@@ -19,15 +19,15 @@ use Rattle.formulas.specs.declared.Limits.{Limits}
 use Rattle.formulas.specs.Bare.{bare, Has}
 use Rattle.view.specs.Shows.{StepShown}
 use Rattle.view.specs.Inv.{Inv}
-use Rattle.view.specs.Acts.{Ready, Tries}
-use Rattle.view.specs.Steps.{InvStep, stops, goes, KeepsStep, went-is}
+use Rattle.view.specs.Acts.{Tries}
+use Rattle.view.specs.Steps.{InvStep, goes, KeepsStep, went-is}
 use Rattle.view.specs.Known.{Spans}
 use Rattle.view.specs.Bounds.{went-by}
 use Rattle.readers.specs.Reading.{rowOf, Alive}
 use Rattle.readers.specs.Limits.{ReadsLimits}
 use Rattle.rows.specs.Same.{Blind, rows-blind, Leaves, same, same-next, same-then}
 use Rattle.rows.specs.Steps.{stopped-then, inv-next, inv-then}
-use Rattle.rows.specs.Loop.{Turning, turning-start, turning-ready, term-still, len-is}
+use Rattle.rows.specs.Loop.{Turning, turning-start, term-still, len-is}
 use Rattle.implied.specs.Sides.{term-has, inv-term, leaves-term}
 
 bounds-cons : (M : Model) (r : ℕ) (row : Row) (act : Activity) (t : Term) (ts : List Term) (w : Work) → impliedBounds M r row act (t ∷ ts) w ≡ (impliedTerm M r row act t w >>= λ w1. impliedBounds M r row act ts w1)

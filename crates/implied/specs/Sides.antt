@@ -8,6 +8,7 @@ use mathlib.Core.Option.{Option, none, some}
 use lib.ListN.{getD}
 use lib.Ieee.{Float, nan}
 use Rattle.floats.specs.Num.{choose, isFinite}
+use Rattle.floats.specs.Points.{Held}
 use Rattle.tolerances.specs.Tol.{Term, term, at}
 use Rattle.definition.specs.declared.Activity.{Activity}
 use Rattle.definition.specs.Model.{Model, Row, rangeMin, rangeMax}
@@ -24,16 +25,18 @@ use Rattle.formulas.specs.declared.Rest.{Rest}
 use Rattle.formulas.specs.declared.Rest.the-variants.{Sum, Unbounded}
 use Rattle.formulas.specs.Bare.{bare, Has, Says}
 use Rattle.formulas.specs.Implied.{restIs, hiOf, loOf, hi-of-of, lo-of-of, boundsAbove, quotientOf, relaxOf, relaxation-of, implied-of}
+use Rattle.formulas.specs.Stays.{Relaxes, relax-held}
 use Rattle.view.specs.Shows.{Shows}
 use Rattle.view.specs.Inv.{Inv}
 use Rattle.view.specs.Lists.{yes, no, either}
 use Rattle.view.specs.Acts.{Tries}
-use Rattle.view.specs.Steps.{InvStep, stops, goes, KeepsStep, tries-under, tries-then, tries-stop}
+use Rattle.view.specs.Steps.{InvStep, goes, KeepsStep, tries-under, tries-then, tries-stop}
 use Rattle.view.specs.Known.{Bounding}
 use Rattle.view.specs.Bounds.{wlo-is, whi-is, went-by}
 use Rattle.bounds.specs.Moves.{inv-upper, inv-lower}
+use Rattle.bounds.specs.Stays.{Stays}
 use Rattle.rows.specs.Knowing.{Moves, moves-bounding, moves-spans, of-call}
-use Rattle.rows.specs.Same.{Blind, Leaves, halts, same, same-then, upper-leaves, lower-leaves}
+use Rattle.rows.specs.Same.{Blind, Leaves, same, same-then, upper-leaves, lower-leaves}
 use Rattle.rows.specs.Steps.{tries-as, inv-then}
 
 -- `implied`, at a side
@@ -54,6 +57,11 @@ rest-some : (M : Model) (upper : Bool) (r : ℕ) (row : Row) (side : Side) (c : 
     (tightenLower M (t .var) (quotientOf (side .bound) rest (t .coeff)) (relaxOf M r row side c rest (t .coeff)) w)
 unfolding fromRest
 rest-some M upper r row side c t rest w = implied-of M upper r row side c t rest w
+
+-- ---- a bound that leaves its variable as it is
+pub record Still (domain : List ℕ) (s : Shape) (f : Floats) (side : Side) (v : ℕ) (q : Float) (above : Bool) : Type 0 where
+  pub relaxes : Relaxes (s .feas) (side .abs) (side .slack)
+  pub stays : Stays domain s f v q above
 
 -- ---- the row's four floats are enough
 module _ {x : Limits} {row : Row} (M : Model) (r : ℕ) (h : Has x row) where
@@ -129,6 +137,21 @@ pub leaves-term : {A : Type 0} {g : Work → A} → Blind g → (M : Model) (r :
 unfolding both
 leaves-term b M r row act t w =
     rw (term-of M r row act t w) (same-then (λ w1. sideStep M false r row (loOf row act) _ t w1) (leaves-side b M true r row (hiOf row act) _ t w) (λ u. leaves-side b M false r row (loOf row act) _ t u))
+
+-- ---- implied_rest: a variable that stays as it is
+module _ {ds ss js : List ℕ} {s : Shape} {f : Floats} {n : Numbers} (upper : Bool) (r : ℕ) (x : Limits) (side : Side) (c : Float) (v : ℕ) (a rest : Float) {q : Float} {b : Bool} (eq : q ≡ quotientOf (side .bound) rest a) (eb : b ≡ boundsAbove upper a) where
+  pub rest-still : Held a → Still ds s f side v q b → Tries (Moves ds ss js) s f n f n Next (λ M. fromRest M upper r (bare x) side c (term v a) (some rest))
+  rest-still ha t =
+      record {
+        does = λ M o k w p d h i.
+            let u = relaxOf M r (bare x) side c rest a in
+            went-by
+            (rest-some M upper r (bare x) side c (term v a) rest w
+            ∙ ap (λ (y : Bool). choose y (tightenUpper M v (quotientOf (side .bound) rest a) u w) (tightenLower M v (quotientOf (side .bound) rest a) u w)) (sym eb)
+            ∙ ap (λ (y : Float). choose b (tightenUpper M v y u w) (tightenLower M v y u w)) (sym eq)
+            ∙ t .stays .stays js M n o w (moves-bounding M p) d h u (relax-held M r (bare x) side c rest a) (t .relaxes .relaxed M r (bare x) side c rest a refl refl (sym (d .feas)) ha))
+            h;
+      }
 
 -- ---- implied_rest: by the side's direction
 module _ {ds ss js : List ℕ} {s : Shape} {f f′ : Floats} {n n′ : Numbers} {z : code.Step} (upper : Bool) (r : ℕ) (x : Limits) (side : Side) (c : Float) (v : ℕ) (a rest : Float)

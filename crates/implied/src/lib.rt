@@ -4,7 +4,7 @@ ghost use Prim.Native.Nat.{_+_, _-_, _<_};
 ghost use mathlib.Core.Path.{_≡_};
 ghost use mathlib.Core.Bool.{true, false};
 ghost use mathlib.Core.Option.{some};
-ghost use lib.ListN.{getD};
+ghost use lib.ListN.{length, getD};
 ghost use Rattle.floats.specs.Num.{choose};
 ghost use Rattle.tolerances.specs.Tol.{term};
 ghost use Rattle.definition.specs.Implied as definition;
@@ -14,13 +14,24 @@ ghost use Rattle.formulas.specs.Implied.{hiOf, loOf};
 ghost use Rattle.view.specs.Acts.{Ready, Tries};
 ghost use Rattle.readers.specs.Reading.{rowOf, Alive};
 ghost use Rattle.rows.specs.Knowing.{Moves};
-ghost use Rattle.implied.specs.Sides.{fromRest, sideStep, halfStep};
+ghost use Rattle.implied.specs.Sides.{Still, fromRest, sideStep, halfStep};
 use definition::Activity;
 use formulas::Limits;
 use formulas::Rest;
 use formulas::Side;
 use space::Shape;
 use space::Step;
+
+// Whether an implied bound q leaves its variable as it is, whatever the row's magnitude relaxes it by.
+fn still(domain: &[u8], w: &[f64], s: Shape, side: Side, v: usize, q: f64, above: bool) -> bool
+    requires { ⌜ (v < s .vars) × HoldsF s (now w) × (v < length (now domain)) ⌝ }
+    ensures { λ z. ⌜ (z ≡ true → Still (now (domain .entry)) s (floatsOf s (now (w .entry))) side v q above) ⌝ }
+{
+    if formulas::relaxes(s.feas, side.abs, side.slack) {
+        return bounds::stays(domain, w, s, v, q, above);
+    }
+    false
+}
 
 // = implied, where the rest of the row has a sum
 fn implied_rest(
@@ -46,8 +57,12 @@ fn implied_rest(
     ensures { λ z. ⌜ Tries (Moves (now (domain .entry)) (now (starts .entry)) (now (adj .entry))) s (floatsOf s (now (w .entry))) (numbersOf s (now (m .entry))) (floatsOf s (now (w .exit))) (numbersOf s (now (m .exit))) z (λ M. fromRest M upper r (bare x) side c (term v a) (some rest)) ⌝ }
 {
     let q = formulas::quotient(side, rest, a);
+    let above = formulas::bounds_above(upper, a);
+    if still(domain, w, s, side, v, q, above) {
+        return Step::Next;
+    }
     let relax = formulas::relaxation(s.feas, terms, x, side, c, rest, a);
-    if formulas::bounds_above(upper, a) {
+    if above {
         return bounds::tighten_upper(domain, adj, w, m, s, v, q, relax);
     }
     bounds::tighten_lower(domain, adj, w, m, s, v, q, relax)

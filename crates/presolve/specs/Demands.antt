@@ -1,31 +1,30 @@
 -- 01's DEMANDS ABOUT THE CALL ITSELF: what follows of the promise, in terms of the call's answer and of what the lent slices hold after it.
-use Prim.Native.Nat.{ℕ, zero, suc, _≤_, _<_}
+use Prim.Native.Nat.{ℕ, _≤_, _<_}
 use native.Mathlib.Omega.{arith}
 use mathlib.Core.Path.{_≡_, refl, ap, sym, _∙_, subst}
 use mathlib.Core.Logic.{_↔_}
 use mathlib.Core.Bool.{Bool, true, false}
-use mathlib.Core.List.{List, []}
+use mathlib.Core.List.{[]}
 use mathlib.Core.Option.{Option, none, some}
 use lib.IntN.{ℤ}
-use lib.ListN.{length, getD, take, replicate}
-use lib.Ieee.{Float}
+use lib.ListN.{length, take, replicate}
 use Rattle.floats.specs.Num.{0f}
 use Rattle.tolerances.specs.Tol.{at}
 use Rattle.definition.specs.declared.Counts.{Counts}
 use Rattle.definition.specs.Params.{params, maxWaves}
 use Rattle.definition.specs.Model as definition
-use Rattle.definition.specs.Model.{Model, isInt, Emit, Reduced}
+use Rattle.definition.specs.Model.{Model, isInt, Reduced}
 use Rattle.definition.specs.Presolve.{presolve}
 use Rattle.definition.specs.Refusal.{refusal}
 use Rattle.definition.specs.RowsKept.Statements.{Fate, entriesOf, occurs, countBelow, noEntry}
 use Rattle.definition.specs.RowsKept.Theorems as kept
-use Rattle.definition.specs.PointsKept.Statements.{Farm, PureInteger, Point, MeetsReduced, WholeReduced, Exact}
+use Rattle.definition.specs.PointsKept.Statements.{Farm, Point, MeetsReduced, WholeReduced, Exact}
 use Rattle.definition.specs.PointsKept.Theorem.{points-kept}
 use Rattle.definition.specs.PointsKept.Accepted.{accepted-shaped}
 use Rattle.output.specs.Results.{Results, written}
 use Rattle.presolve.specs.declared.Answer.{Answer}
 use Rattle.presolve.specs.Promise.{Working, working, lengths, Outcome, refused, infeasible, presolved, answerIs, outcome, resultsAfter, workingAfter, Promise}
-use Rattle.presolve.specs.Fronts.{entriesFrom, termsFrom, reducedIn, reduced-in}
+use Rattle.presolve.specs.Fronts.{entriesFrom, reducedIn, reduced-in}
 
 -- ---- the three answers are three
 abbrev kind : Outcome → ℕ

@@ -1,12 +1,12 @@
 -- The used fronts of the result slices, read back as a reduced model: they are the definition's.
-use Prim.Native.Nat.{ℕ, zero, suc, _+_, _≤_, _<_}
+use Prim.Native.Nat.{ℕ, zero, suc, _+_, _<_}
 use native.Mathlib.Omega.{arith}
 use mathlib.Core.Path.{_≡_, refl, ap, sym, _∙_}
-use mathlib.Core.Bool.{Bool, true, false}
-use mathlib.Core.List.{List, [], _∷_, _++_, map}
+use mathlib.Core.Bool.{Bool, false}
+use mathlib.Core.List.{List, [], _∷_, map}
 use lib.ListN.{length, getD, take, drop, drop-of-length-le, List·getD-append, List·getD-map}
 use lib.Seq.{drop-cons, take-append-seam}
-use lib.Ieee.{Float, nan}
+use lib.Ieee.{nan}
 use Rattle.tolerances.specs.Tol.{Term, term, at}
 use Rattle.definition.specs.declared.Counts.{Counts}
 use Rattle.definition.specs.Model.{Model, Emit, Reduced}

@@ -12,7 +12,6 @@ use Rattle.definition.specs.Model as definition
 use Rattle.definition.specs.Model.{Model}
 use Rattle.definition.specs.Presolve.{presolve}
 use Rattle.definition.specs.Refusal.{Lent, refusal}
-use Rattle.output.specs.declared.Reduced.{Reduced}
 use Rattle.output.specs.Results.{Results, written}
 use Rattle.presolve.specs.declared.Answer.{Answer}
 use Rattle.presolve.specs.declared.Answer.the-variants.{Refused, Infeasible, Presolved}

@@ -1,6 +1,6 @@
 -- `reduced_model`, the second answer: no reduced model where presolve found the model infeasible or left it as it was.
 use Prim.Native.Nat.{ℕ}
-use mathlib.Core.Path.{_≡_, refl, ap, sym, _∙_}
+use mathlib.Core.Path.{_≡_, refl, ap, _∙_}
 use mathlib.Core.Bool.{Bool, true, false}
 use mathlib.Core.Option.{Option, none, some}
 use lib.ListN.{length}
@@ -10,7 +10,7 @@ use Rattle.definition.specs.Model as definition
 use Rattle.definition.specs.Model.{Model, Reduced}
 use Rattle.definition.specs.Presolve.{presolve, reducedModel}
 use Rattle.definition.specs.Refusal.{refusal}
-use Rattle.view.specs.Lists.{yes, no}
+use Rattle.view.specs.Lists.{no}
 use Rattle.output.specs.Results.{Results}
 use Rattle.presolve.specs.declared.Answer.{Answer}
 use Rattle.presolve.specs.declared.SecondAnswer as code

@@ -1,8 +1,8 @@
 -- The call step by step: an accepted call's shape and room, and the promise from what the steps promise.
-use Prim.Native.Nat.{ℕ, _+_, _*_, _≤_, _<_, _^_}
+use Prim.Native.Nat.{ℕ, _+_, _≤_, _^_}
 use native.Mathlib.Omega.{arith}
 use mathlib.Core.Path.{_≡_, refl, ap, sym, _∙_, subst}
-use mathlib.Core.Bool.{Bool, true, false}
+use mathlib.Core.Bool.{Bool}
 use mathlib.Core.List.{List}
 use mathlib.Core.Option.{Option, none, some}
 use lib.ListN.{length, replicate}
@@ -22,11 +22,8 @@ use Rattle.space.specs.declared.Step as step
 use Rattle.space.specs.declared.Step.the-variants.{Stop, Next}
 use Rattle.space.specs.Store.{Floats, Numbers, HoldsF, HoldsN}
 use Rattle.view.specs.Call.{Call}
-use Rattle.view.specs.Shows.{Counted, tallyOf}
-use Rattle.view.specs.Known.{Written}
 use Rattle.view.specs.Acts.{Ready}
 use Rattle.folds.specs.Written.{Given}
-use Rattle.begin.specs.Start.{Handed}
 use Rattle.refuse.specs.declared.Refusal as refuse
 use Rattle.refuse.specs.declared.Refusal.the-variants as refuses
 use Rattle.refuse.specs.declared.Refusal.the-variants.{Number}
@@ -38,12 +35,12 @@ use Rattle.emit.specs.Settled.{outOf}
 use Rattle.output.specs.declared.Reduced as code
 use Rattle.output.specs.Results as results
 use Rattle.output.specs.Results.{Results, written}
-use Rattle.output.specs.Summary.{countsOf, CountedAs, counted-as, Small, counts-are}
+use Rattle.output.specs.Summary.{countsOf, counted-as, Small, counts-are}
 use Rattle.output.specs.Answered as answered
-use Rattle.output.specs.Answered.{Answered, WritesOut}
+use Rattle.output.specs.Answered.{WritesOut}
 use Rattle.reduce.specs.Reducing.{Called, Reduces, ended-is, settled-is}
 use Rattle.presolve.specs.declared.Answer.{Answer}
-use Rattle.presolve.specs.Promise.{Working, working, lengths, Outcome, refused, infeasible, presolved, answerIs, outcome, resultsAfter, workingAfter, Promise}
+use Rattle.presolve.specs.Promise.{Working, working, lengths, refused, infeasible, presolved, answerIs, outcome, resultsAfter, workingAfter, Promise}
 
 -- ---- clear
 pub all-zero : (f : List Float) (n j : List ℕ) {f′ : List Float} {n′ j′ : List ℕ} → f′ ≡ replicate (length f) 0f → n′ ≡ replicate (length n) 0 → j′ ≡ replicate (length j) 0 → working f′ n′ j′ ≡ workingAfter none (working f n j)

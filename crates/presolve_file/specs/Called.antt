@@ -1,28 +1,25 @@
 -- A call's promise, as the text of its answer: the fronts that the answer uses are there, and what is printed of them is the text of the definition's answer.
-use Prim.Native.Nat.{ℕ, _+_, _≤_}
+use Prim.Native.Nat.{ℕ, _≤_}
 use native.Mathlib.Omega.{arith}
 use mathlib.Core.Path.{_≡_, refl, ap, sym, _∙_, subst}
-use mathlib.Core.Bool.{Bool}
-use mathlib.Core.List.{List, _++_, map}
+use mathlib.Core.List.{List, map}
 use mathlib.Core.Option.{Option, none, some}
 use lib.ListN.{length, take, drop, length-append, length-map}
 use lib.Seq.{take-append-seam}
 use Rattle.tolerances.specs.Tol.{Term}
-use Rattle.definition.specs.declared.Counts.{Counts}
 use Rattle.definition.specs.Model as definition
 use Rattle.definition.specs.Model.{Model, Emit, done}
 use Rattle.definition.specs.Presolve.{presolve}
 use Rattle.definition.specs.Refusal.{Lent, refusal}
 use Rattle.definition.specs.RowsKept.Theorems.{bounds-lengths}
 use Rattle.emit.specs.Filling.{over}
-use Rattle.emit.specs.Terms.{varsOf, coeffsOf}
 use Rattle.output.specs.declared.Reduced.{Reduced}
 use Rattle.output.specs.Results.{Results, written}
 use Rattle.presolve.specs.declared.Answer.{Answer}
 use Rattle.presolve.specs.declared.Answer.the-variants.{Refused, Infeasible, Presolved}
-use Rattle.presolve.specs.Promise.{Working, lengths, Outcome, answerIs, outcome, resultsAfter, Promise}
+use Rattle.presolve.specs.Promise.{Working, lengths, answerIs, outcome, resultsAfter, Promise}
 use Rattle.print_result.specs.Text.{refusedLine}
-use Rattle.presolve_file.specs.Whole.{space, kindOf, countsOf, reducedText, infeasibleText, outcomeText, modelText}
+use Rattle.presolve_file.specs.Whole.{space, reducedText, infeasibleText, outcomeText, modelText}
 use Rattle.presolve_file.specs.Fronts.{Fronts, frontsText, CallFronts, callText}
 
 -- ---- a list at the front of a slice

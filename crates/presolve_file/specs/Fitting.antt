@@ -4,7 +4,6 @@ use native.Mathlib.Omega.{arith}
 use mathlib.Core.Path.{_≡_, refl, ap, sym, _∙_}
 use mathlib.Core.Bool.{Bool, true, false}
 use mathlib.Core.List.{List, [], _++_}
-use borrow.Author.Tests.{leb-true}
 use lib.ListN.{length, take, drop, length-append}
 use lib.Seq.{take-append-seam, length-take-le}
 use lib.Dec.{leb}

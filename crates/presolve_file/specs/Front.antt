@@ -2,12 +2,11 @@
 use Prim.Native.Nat.{ℕ, _+_, _≤_}
 use native.Mathlib.Omega.{arith}
 use mathlib.Core.Path.{_≡_, refl, ap, sym, _∙_}
-use mathlib.Core.Bool.{Bool, true}
+use mathlib.Core.Bool.{true}
 use mathlib.Core.List.{List, _++_}
 use borrow.Author.Tests.{le-leb}
 use lib.ListN.{length, take, drop, length-append}
 use lib.Seq.{take-append-seam}
-use lib.Dec.{leb}
 use Rattle.floats.specs.Num.{choose}
 use Rattle.definition.specs.Model.{Model}
 use Rattle.refuse.specs.Of.{modelOf}

@@ -1,20 +1,20 @@
 -- The printed text of a call's answer, read from the fronts of the result slices: it is the text of the definition's answer.
-use Prim.Native.Nat.{ℕ, _+_, _-_, _≤_}
-use mathlib.Core.Path.{_≡_, refl, ap, sym, _∙_}
+use Prim.Native.Nat.{ℕ, _-_, _≤_}
+use mathlib.Core.Path.{_≡_, refl, sym, _∙_}
 use mathlib.Core.Bool.{Bool}
-use mathlib.Core.List.{List, map}
+use mathlib.Core.List.{List}
 use lib.ListN.{length, take}
 use lib.Ieee.{Float}
 use Rattle.definition.specs.declared.Counts as definition
 use Rattle.output.specs.declared.Reduced.{Reduced}
-use Rattle.output.specs.Results.{Results, written}
+use Rattle.output.specs.Results.{Results}
 use Rattle.presolve.specs.declared.Answer.{Answer}
 use Rattle.presolve.specs.declared.Answer.the-variants.{Refused, Infeasible, Presolved}
 use Rattle.print_result.specs.declared.Kind.{Kind}
 use Rattle.print_result.specs.declared.Counts.{Counts}
 use Rattle.print_result.specs.Text.{answerText, refusedLine, followed}
 use Rattle.print_result.specs.TextLaws.{only-counts}
-use Rattle.presolve_file.specs.Whole.{countsOf, kindOf, infeasibleText, reducedText}
+use Rattle.presolve_file.specs.Whole.{countsOf, kindOf, infeasibleText}
 
 -- the fronts that an answer uses are there
 pub record Fronts (x : Reduced) (lowers uppers : ℕ) (b : Results) : Type 0 where

@@ -3,7 +3,7 @@ use Prim.Native.Nat.{ℕ, zero, suc, _+_, _≤_}
 use native.Mathlib.Omega.{arith}
 use mathlib.Core.Path.{_≡_, refl, ap, sym, _∙_}
 use mathlib.Core.Bool.{Bool, true, false}
-use mathlib.Core.List.{List, [], _∷_, map}
+use mathlib.Core.List.{List, [], _∷_}
 use borrow.Author.Tests.{ltb-false}
 use lib.ListN.{length, length-map}
 use lib.Dec.{ltb}
@@ -11,7 +11,7 @@ use Rattle.model_file.specs.declared.Variable.{Variable}
 use Rattle.model_file.specs.declared.Term.{Term}
 use Rattle.model_file.specs.declared.RowHead.{RowHead}
 use Rattle.model_file.specs.declared.Settings.{Settings}
-use Rattle.model_file.specs.Format.{Got, refused, got, Parser, andThen, refuse, byte, number, float, optional, count, code, rules, settings, variable, many, side, head, term, row, Row, rows, ends, allTerms, Lists, lists, whole, Decoded, refusal, file, decoded, decode}
+use Rattle.model_file.specs.Format.{Got, refused, got, andThen, refuse, byte, number, float, optional, count, code, rules, settings, variable, many, side, head, term, row, Row, rows, ends, allTerms, Lists, lists, whole, refusal, file, decoded, decode}
 use Rattle.model_file.specs.Skips.{taken, after, after-length, many-length, rows-are}
 use Rattle.model_file.specs.Leaves.{opened}
 

@@ -7,8 +7,8 @@ use mathlib.Core.Bool.{Bool, true, false}
 use mathlib.Core.List.{List, [], _∷_}
 use lib.ListN.{length, getD, drop, drop-of-length-le}
 use lib.Seq.{drop-cons}
-use lib.Ieee.{Float, nan, lt}
-use Rattle.floats.specs.Num.{choose, gt, 0f, isFinite}
+use lib.Ieee.{Float, nan}
+use Rattle.floats.specs.Num.{choose, isFinite}
 use Rattle.tolerances.specs.Tol.{Term, term, at}
 use Rattle.definition.specs.declared.Activity.{Activity}
 use Rattle.definition.specs.Model.{Model, rangeMin, rangeMax}
@@ -36,12 +36,12 @@ hisOf working w = choose working (w .whi) (w .ehi)
 
 -- ---- one term
 module _ {s : Shape} {f : Floats} (v : ℕ) (a lo hi : Float) (act : Activity) {z : Activity} where
-  pub within-step : {tolL tolU : Float} → act .ninfL + 1 < 2 ^ 64 → act .ninfU + 1 < 2 ^ 64 → ReadsF Any s f tolL (λ M w. boundTol M w v (lt a 0f)) → ReadsF Any s f tolU (λ M w. boundTol M w v (gt a 0f))
-      → z ≡ stepOf a lo hi tolL tolU act → ReadsF Any s f z (λ M w. activityStep M w lo hi (term v a) act)
-  within-step {tolU = tolU} p q tl tu ez =
+  pub within-step : {tolLo tolHi : Float} → act .ninfL + 1 < 2 ^ 64 → act .ninfU + 1 < 2 ^ 64 → ReadsF Any s f tolLo (λ M w. boundTol M w v false) → ReadsF Any s f tolHi (λ M w. boundTol M w v true)
+      → z ≡ stepOf a lo hi tolLo tolHi act → ReadsF Any s f z (λ M w. activityStep M w lo hi (term v a) act)
+  within-step {tolHi = tolHi} p q tl tu ez =
       record {
         reads = λ M n o k w x c h i.
-            sym (ez ∙ ap (λ (y : Float). stepOf a lo hi y tolU act) (sym (tl .reads M n o k w x c h i)) ∙ ap (λ (y : Float). stepOf a lo hi (boundTol M w v (lt a 0f)) y act) (sym (tu .reads M n o k w x c h i))
+            sym (ez ∙ ap (λ (y : Float). stepOf a lo hi y tolHi act) (sym (tl .reads M n o k w x c h i)) ∙ ap (λ (y : Float). stepOf a lo hi (boundTol M w v false) y act) (sym (tu .reads M n o k w x c h i))
             ∙ step-of M w lo hi (term v a) act p q);
       }
 

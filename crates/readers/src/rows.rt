@@ -34,8 +34,8 @@ fn term_within(w: &[f64], s: Shape, v: usize, a: f64, lo: f64, hi: f64, act: Act
     requires { ⌜ (v < s .vars) × HoldsF s (now w) × (act .ninfL + 1 < 2 ^ 64) × (act .ninfU + 1 < 2 ^ 64) ⌝ }
     ensures { λ z. ⌜ ReadsF Any s (floatsOf s (now (w .entry))) z (λ M u. definition.activityStep M u lo hi (term v a) act) ⌝ }
 {
-    let low = bound_tol(w, s, v, a < 0.0);
-    let high = bound_tol(w, s, v, a > 0.0);
+    let low = bound_tol(w, s, v, false);
+    let high = bound_tol(w, s, v, true);
     activity_step(act, a, lo, hi, low, high)
 }
 

@@ -1,16 +1,15 @@
 -- A row leaves.
-use Prim.Native.Nat.{ℕ, zero, suc, _+_, _%_, _^_, _<_}
+use Prim.Native.Nat.{ℕ, _+_, _%_, _^_, _<_}
 use native.Mathlib.Omega.{arith}
-use mathlib.Core.Path.{_≡_, refl, ap, sym, _∙_}
-use mathlib.Core.Bool.{Bool, true, false}
-use mathlib.Core.List.{List}
-use lib.ListN.{length, getD, set}
+use mathlib.Core.Path.{_≡_, refl, ap, _∙_}
+use mathlib.Core.Bool.{true, false}
+use lib.ListN.{length, getD}
 use lib.Seq.{getD-set-same, getD-set-other}
 use Rattle.definition.specs.Model.{Model, Row, withAlive, dropped}
-use Rattle.definition.specs.Work.{Work, withRow, withCounts, noRow, dropRow}
+use Rattle.definition.specs.Work.{Work, dropRow}
 use Rattle.space.specs.declared.Shape.{Shape}
 use Rattle.space.specs.Store.{Floats, Numbers, put-alive, put-dropped}
-use Rattle.view.specs.Shows.{isOne, Shows}
+use Rattle.view.specs.Shows.{isOne}
 use Rattle.view.specs.Inv.{Inv}
 use Rattle.view.specs.Lists.{zero-is, count-mod}
 use Rattle.view.specs.Acts.{ActsN, Any, Keeps}

@@ -1,12 +1,11 @@
 -- A loop over a row's live terms that changes no row: from whatever state the slices showed, they show one that K relates to it.
 use Prim.Native.Nat.{ℕ, _+_, _<_}
 use native.Mathlib.Omega.{arith}
-use mathlib.Core.Path.{_≡_, refl, ap, sym, _∙_, subst}
-use mathlib.Core.Bool.{Bool, true, false}
+use mathlib.Core.Path.{_≡_, ap, sym, _∙_, subst}
 use mathlib.Core.List.{List}
 use lib.ListN.{length, getD}
 use lib.Ieee.{Float, nan}
-use Rattle.tolerances.specs.Tol.{Term, term}
+use Rattle.tolerances.specs.Tol.{term}
 use Rattle.definition.specs.Model.{Model, Row}
 use Rattle.definition.specs.Work.{Work, Step, noRow, noTerm}
 use Rattle.space.specs.declared.Shape.{Shape}
@@ -19,7 +18,7 @@ use Rattle.view.specs.Acts.{Ready, Acts, Tries}
 use Rattle.view.specs.Steps.{went-is}
 use Rattle.view.specs.Known.{Spans}
 use Rattle.readers.specs.Reading.{rowOf, Alive}
-use Rattle.readers.specs.RowAt.{TermAt, RowAt, row-at, row-ready, row-alive, alive-of}
+use Rattle.readers.specs.RowAt.{TermAt, RowAt, row-at, row-alive, alive-of}
 use Rattle.rows.specs.Same.{Same, same-next}
 
 pub record Onward (M : Model) (f : Floats) (n : Numbers) (o : List ℕ) (k : ℕ) (K : Work → Type 0) : Type 0 where

@@ -1,7 +1,7 @@
 -- What a step that requeues rows or changes bounds leaves: the rows, and how many waves there were.
 use Prim.Native.Nat.{ℕ, zero, suc}
-use mathlib.Core.Path.{_≡_, refl, sym, _∙_, subst}
-use mathlib.Core.Bool.{Bool, true, false}
+use mathlib.Core.Path.{_≡_, refl, _∙_, subst}
+use mathlib.Core.Bool.{Bool, true}
 use mathlib.Core.List.{List}
 use lib.ListN.{length, getD, set}
 use lib.Ieee.{Float}

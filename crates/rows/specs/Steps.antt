@@ -3,15 +3,15 @@ use Prim.Native.Nat.{ℕ}
 use mathlib.Core.Path.{_≡_, sym, subst}
 use mathlib.Core.List.{List}
 use Rattle.definition.specs.Model.{Model}
-use Rattle.definition.specs.Work.{Work, Step, stop, next, _>>=_}
+use Rattle.definition.specs.Work.{Work, Step, next, _>>=_}
 use Rattle.space.specs.declared.Shape.{Shape}
 use Rattle.space.specs.declared.Step as code
-use Rattle.space.specs.declared.Step.the-variants.{Stop, Next}
+use Rattle.space.specs.declared.Step.the-variants.{Stop}
 use Rattle.space.specs.Store.{Floats, Numbers}
 use Rattle.view.specs.Call.{Call}
 use Rattle.view.specs.Shows.{Shows, StepShown, stopped}
 use Rattle.view.specs.Inv.{Inv}
-use Rattle.view.specs.Acts.{Ready, Acts, ActsN, Tries, Any}
+use Rattle.view.specs.Acts.{Acts, ActsN, Tries, Any}
 use Rattle.view.specs.Steps.{InvStep, stops, goes}
 
 module _ {P : Model → Type 0} {s : Shape} {f f′ : Floats} {n n′ : Numbers} where

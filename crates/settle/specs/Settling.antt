@@ -5,12 +5,10 @@ use native.Mathlib.Numerals.{add-one}
 use mathlib.Core.Path.{_≡_, refl, ap, sym, _∙_, subst}
 use mathlib.Core.Bool.{Bool, true, false}
 use mathlib.Core.List.{List, [], _∷_}
-use lib.ListN.{length, getD, set}
+use lib.ListN.{length, getD}
 use lib.Seq.{getD-set-same}
 use lib.Ieee.{Float}
-use Rattle.floats.specs.Num.{choose}
 use Rattle.tolerances.specs.Tol.{Term}
-use Rattle.definition.specs.declared.Counts.{Counts}
 use Rattle.definition.specs.Model.{Model, Row}
 use Rattle.definition.specs.Work.{Work, withRow, Step, stop, next, _>>=_, noRow, trivial}
 use Rattle.definition.specs.Folds.{foldFixed}
@@ -21,10 +19,10 @@ use Rattle.space.specs.declared.Step as code
 use Rattle.space.specs.declared.Step.the-variants.{Stop, Next}
 use Rattle.space.specs.Store.{Floats, Numbers}
 use Rattle.view.specs.Call.{Call}
-use Rattle.view.specs.Shows.{isOne, Shows, StepShown, went}
+use Rattle.view.specs.Shows.{Shows, StepShown, went}
 use Rattle.view.specs.Inv.{Inv}
-use Rattle.view.specs.Acts.{Ready, Acts, Tries, Keeps}
-use Rattle.view.specs.Steps.{InvStep, stops, goes, KeepsStep, tries-then, tries-stop, keeps-then, keeps-next, ready-went}
+use Rattle.view.specs.Acts.{Ready, Acts, Tries}
+use Rattle.view.specs.Steps.{InvStep, goes, KeepsStep, tries-then, tries-stop, keeps-then, ready-went}
 use Rattle.view.specs.Lists.{yes, no, either, one-not}
 use Rattle.readers.specs.Reading.{rowOf, Alive}
 use Rattle.readers.specs.RowAt.{row-alive}

@@ -26,7 +26,7 @@ fn settle_alive(
     requires { ⌜ Ready (Written (now starts) (now index) (now coeff) (now cmp) (now rhs)) s (floatsOf s (now w)) (numbersOf s (now m)) ⌝ }
     ensures { λ z. ⌜ Tries (Written (now (starts .entry)) (now (index .entry)) (now (coeff .entry)) (now (cmp .entry)) (now (rhs .entry))) s (floatsOf s (now (w .entry))) (numbersOf s (now (m .entry))) (floatsOf s (now (w .exit))) (numbersOf s (now (m .exit))) z (λ M u. settleAlive M r (foldFixed M r u (rowOf u r)) u) ⌝ }
 {
-    folds::fold_fixed(starts, index, coeff, cmp, rhs, w, m, s, r);
+    folds::fold_row(starts, index, coeff, cmp, rhs, w, m, s, r);
     let len = space::get_len(m, s, r);
     if len == 0 {
         return singles::empty_row_check(starts, index, coeff, cmp, rhs, w, m, s, r);

@@ -10,10 +10,10 @@ ghost use Rattle.definition.specs.Wave.{severalTerms};
 ghost use Rattle.space.specs.Store.{floatsOf, numbersOf, HoldsF, HoldsN};
 ghost use Rattle.formulas.specs.Bare.{bare, Says};
 ghost use Rattle.formulas.specs.Reduce.{mayReduce};
-ghost use Rattle.view.specs.Acts.{Ready, Acts, Tries};
+ghost use Rattle.view.specs.Acts.{Ready, Reads, Acts, Tries};
 ghost use Rattle.readers.specs.Reading.{rowOf, Alive};
-ghost use Rattle.rows.specs.Knowing.{Marks, Moves};
-ghost use Rattle.several.specs.Several.{leftover, decided};
+ghost use Rattle.rows.specs.Knowing.{Looks, Marks, Moves};
+ghost use Rattle.several.specs.Several.{endIf, endOf};
 use definition::Activity;
 use formulas::Limits;
 use space::Shape;
@@ -37,55 +37,44 @@ fn force_row(
     rows::drop_row(m, s, r);
 }
 
-// A row that forces nothing.
-fn unforced(
-    domain: &[u8],
-    starts: &[usize],
-    adj: &[usize],
-    w: &mut [f64],
-    m: &mut [usize],
-    s: Shape,
-    r: usize,
-    act: Activity,
-    e: Activity,
-) -> Step
-    requires { ⌜ (r < s .rows) × HoldsF s (now w) × HoldsN s (now m) × Alive (numbersOf s (now m)) r ⌝ }
-    requires { ⌜ Ready (Moves (now domain) (now starts) (now adj)) s (floatsOf s (now w)) (numbersOf s (now m)) ⌝ }
-    ensures { λ z. ⌜ Tries (Moves (now (domain .entry)) (now (starts .entry)) (now (adj .entry))) s (floatsOf s (now (w .entry))) (numbersOf s (now (m .entry))) (floatsOf s (now (w .exit))) (numbersOf s (now (m .exit))) z (λ M u. leftover M r (rowOf u r) act e u) ⌝ }
-{
-    let x = readers::limits(w, s, r);
-    if formulas::redundant(x, act, e) {
-        rows::drop_row(m, s, r);
-        return Step::Next;
-    }
-    implied::implied_bounds(domain, starts, adj, w, m, s, r, act)
+// What the emitted activity makes of a row: its variables forced to a corner, the row dropped, or neither.
+pub enum Ending {
+    ForceMin,
+    ForceMax,
+    Drop,
+    Open,
 }
 
-// A row whose working activity lets it be forcing or redundant: the emitted one decides.
-fn several_emitted(
+// = endOf, where the working activity lets the row be forcing or redundant; else the row stays open.
+fn end_of(
     domain: &[u8],
     starts: &[usize],
-    adj: &[usize],
-    w: &mut [f64],
-    m: &mut [usize],
+    w: &[f64],
+    m: &[usize],
     s: Shape,
     r: usize,
     act: Activity,
-) -> Step
+    reduces: bool,
+) -> Ending
     requires { ⌜ (r < s .rows) × HoldsF s (now w) × HoldsN s (now m) × Alive (numbersOf s (now m)) r ⌝ }
-    requires { ⌜ Ready (Moves (now domain) (now starts) (now adj)) s (floatsOf s (now w)) (numbersOf s (now m)) ⌝ }
-    ensures { λ z. ⌜ Tries (Moves (now (domain .entry)) (now (starts .entry)) (now (adj .entry))) s (floatsOf s (now (w .entry))) (numbersOf s (now (m .entry))) (floatsOf s (now (w .exit))) (numbersOf s (now (m .exit))) z (λ M u. decided M r (rowOf u r) act (activities.activity M u (rowOf u r) false) u) ⌝ }
+    requires { ⌜ Ready (Looks (now domain) (now starts)) s (floatsOf s (now w)) (numbersOf s (now m)) ⌝ }
+    ensures { λ z. ⌜ Reads (Looks (now (domain .entry)) (now (starts .entry))) s (floatsOf s (now (w .entry))) (numbersOf s (now (m .entry))) z (λ M u. endIf reduces (endOf M r (rowOf u r) act (activities.activity M u (rowOf u r) false) u)) ⌝ }
 {
+    if !reduces {
+        return Ending::Open;
+    }
     let e = readers::activity(starts, w, m, s, r, false);
     if forcing::forces_min(domain, starts, w, m, s, r, act, e) {
-        force_row(starts, adj, w, m, s, r, true);
-        return Step::Next;
+        return Ending::ForceMin;
     }
     if forcing::forces_max(domain, starts, w, m, s, r, act, e) {
-        force_row(starts, adj, w, m, s, r, false);
-        return Step::Next;
+        return Ending::ForceMax;
     }
-    unforced(domain, starts, adj, w, m, s, r, act, e)
+    let x = readers::limits(w, s, r);
+    if formulas::redundant(x, act, e) {
+        return Ending::Drop;
+    }
+    Ending::Open
 }
 
 // What the working activity says of a row: whether no point meets it, and whether it may be forcing or
@@ -120,7 +109,7 @@ fn reach_of(feas: f64, terms: usize, x: Limits, act: Activity) -> Reach
     }
 }
 
-// = severalTerms
+// = severalTerms. implied_bounds is called from one place, so that it is compiled into this.
 pub fn several_terms(
     domain: &[u8],
     starts: &[usize],
@@ -141,8 +130,19 @@ pub fn several_terms(
     if z.never {
         return Step::Stop;
     }
-    if z.reduces {
-        return several_emitted(domain, starts, adj, w, m, s, r, act);
+    match end_of(domain, starts, w, m, s, r, act, z.reduces) {
+        Ending::ForceMin => {
+            force_row(starts, adj, w, m, s, r, true);
+            Step::Next
+        }
+        Ending::ForceMax => {
+            force_row(starts, adj, w, m, s, r, false);
+            Step::Next
+        }
+        Ending::Drop => {
+            rows::drop_row(m, s, r);
+            Step::Next
+        }
+        Ending::Open => implied::implied_bounds(domain, starts, adj, w, m, s, r, act),
     }
-    implied::implied_bounds(domain, starts, adj, w, m, s, r, act)
 }

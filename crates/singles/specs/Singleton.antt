@@ -4,7 +4,7 @@ use native.Mathlib.Omega.{arith}
 use mathlib.Core.Path.{_≡_, refl, ap, sym, _∙_, subst}
 use mathlib.Core.Bool.{Bool, true, false, _&&_}
 use mathlib.Core.List.{List}
-use lib.ListN.{length, getD}
+use lib.ListN.{getD}
 use lib.Ieee.{Float, nan}
 use Rattle.floats.specs.Num.{choose, gt}
 use Rattle.tolerances.specs.Tol.{Term, term, at}
@@ -17,14 +17,14 @@ use Rattle.space.specs.declared.Step as code
 use Rattle.space.specs.declared.Step.the-variants.{Stop, Next}
 use Rattle.space.specs.Store.{Floats, Numbers}
 use Rattle.formulas.specs.declared.Limits.{Limits}
-use Rattle.formulas.specs.Bare.{bare, Has, Says, ByTol, new-lower-of, new-upper-of}
+use Rattle.formulas.specs.Bare.{bare, Says, ByTol, new-lower-of, new-upper-of}
 use Rattle.formulas.specs.Singles.{lowerSide, upperSide, lower-side-of, upper-side-of, singleton-of, missesAt, meetsLower, meetsUpper, misses-of, lower-meets-of, upper-meets-of}
 use Rattle.view.specs.Call.{Call}
 use Rattle.view.specs.Shows.{Shows, StepShown}
 use Rattle.view.specs.Inv.{Inv}
 use Rattle.view.specs.Lists.{yes, no, either}
-use Rattle.view.specs.Acts.{Ready, Acts, ActsN, Any, Tries, Reads, Keeps}
-use Rattle.view.specs.Steps.{InvStep, stops, goes, KeepsStep, went-is, tries-under, tries-stop}
+use Rattle.view.specs.Acts.{Ready, Acts, ActsN, Any, Tries, Reads}
+use Rattle.view.specs.Steps.{InvStep, stops, goes, KeepsStep, went-is, tries-under}
 use Rattle.view.specs.Known.{Spans}
 use Rattle.view.specs.Adjacency.{Adj}
 use Rattle.view.specs.Bounds.{elo-is, ehi-is, went-by, stopped-by}

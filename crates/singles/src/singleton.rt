@@ -2,7 +2,7 @@
 ghost use mathlib.Core.Path.{_≡_};
 ghost use Prim.Native.Nat.{_<_};
 ghost use mathlib.Core.Bool.{_&&_};
-ghost use lib.ListN.{length, getD};
+ghost use lib.ListN.{getD};
 ghost use Rattle.definition.specs.Work.{noTerm};
 ghost use Rattle.definition.specs.Singles as definition;
 ghost use Rattle.space.specs.Store.{floatsOf, numbersOf, HoldsF, HoldsN};

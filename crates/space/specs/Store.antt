@@ -1,8 +1,9 @@
--- The two working slices as records of lists, one list a block, and what a store to a block leaves. docs/WORKSPACE.md has the layout.
+-- The two working slices as records of lists. A slice is cut into blocks; a block that holds several numbers of each variable or row side by
+-- side is cut into strands, one for each of those numbers. docs/WORKSPACE.md has the layout.
 use mathlib.Core.List.{List, [], _∷_}
 use Prim.Native.Nat.{ℕ, zero, suc, _+_, _*_, _≤_}
 use lib.ListN.{length, getD, set, take, drop}
-use lib.Ieee.{Float}
+use lib.Ieee.{Float, nan}
 use Rattle.space.specs.declared.Shape.{Shape}
 
 -- a list cut into blocks of the given lengths
@@ -26,17 +27,33 @@ size k [] = 0
 size zero (n ∷ ns) = n
 size (suc k) (n ∷ ns) = size k ns
 
--- element i of block k is x now
+-- strand k of a block in which w elements stand side by side: those at places k, w + k, 2 * w + k and so on, n in all; d past the block's end
+unfoldable pub strand : {A : Type 0} → A → ℕ → ℕ → ℕ → List A → List A
+strand d w k zero l = []
+strand d w k (suc n) l = getD l k d ∷ strand d w k n (drop w l)
+
+-- m strands from strand k on, and all w
+unfoldable pub strandsFrom : {A : Type 0} → A → ℕ → ℕ → ℕ → ℕ → List A → List (List A)
+strandsFrom d w k zero n l = []
+strandsFrom d w k (suc m) n l = strand d w k n l ∷ strandsFrom d w (suc k) m n l
+
+unfoldable pub strands : {A : Type 0} → A → ℕ → ℕ → List A → List (List A)
+strands d w n l = strandsFrom d w 0 w n l
+
+-- element i of block k, or of strand k, is x now
 unfoldable pub putIn : {A : Type 0} → ℕ → ℕ → A → List (List A) → List (List A)
 putIn k i x [] = []
 putIn zero i x (b ∷ bs) = set b i x ∷ bs
 putIn (suc k) i x (b ∷ bs) = b ∷ putIn k i x bs
 
+-- block 0: wlo, whi, elo, ehi of each variable; 1: lo, hi, foldScale, shift of each row; 2 to 5: written, rewritten, kept, bound; 6: coeffs
 unfoldable pub fsizes : Shape → List ℕ
-fsizes s = (s .vars) ∷ (s .vars) ∷ (s .vars) ∷ (s .vars) ∷ (s .rows) ∷ (s .rows) ∷ (s .rows) ∷ (s .rows) ∷ (s .rows) ∷ (s .rows) ∷ (s .rows) ∷ (s .rows) ∷ (s .terms) ∷ []
+fsizes s = (4 * s .vars) ∷ (4 * s .rows) ∷ (s .rows) ∷ (s .rows) ∷ (s .rows) ∷ (s .rows) ∷ (s .terms) ∷ []
 
+-- blocks 0 to 5: the single numbers; 6: dirty, coeffDirty of each row; 7, 8: queue, wave; 9: len, alive of each row; 10 to 13: folded, touched,
+-- binaries, fate; 14 to 16: slot, badDec, badInc; 17, 18: vars, binary
 unfoldable pub nsizes : Shape → List ℕ
-nsizes s = (1) ∷ (1) ∷ (1) ∷ (1) ∷ (1) ∷ (1) ∷ (s .rows) ∷ (s .rows) ∷ (s .rows) ∷ (s .rows) ∷ (s .rows) ∷ (s .rows) ∷ (s .rows) ∷ (s .rows) ∷ (s .rows) ∷ (s .rows) ∷ (s .vars) ∷ (s .vars) ∷ (s .vars) ∷ (s .terms) ∷ (s .terms) ∷ []
+nsizes s = (1) ∷ (1) ∷ (1) ∷ (1) ∷ (1) ∷ (1) ∷ (2 * s .rows) ∷ (s .rows) ∷ (s .rows) ∷ (2 * s .rows) ∷ (s .rows) ∷ (s .rows) ∷ (s .rows) ∷ (s .rows) ∷ (s .vars) ∷ (s .vars) ∷ (s .vars) ∷ (s .terms) ∷ (s .terms) ∷ []
 
 -- the bounds of variables, the numbers of rows, the coefficients of terms
 pub record Floats : Type 0 where
@@ -78,17 +95,37 @@ pub record Numbers : Type 0 where
   pub vars : List ℕ
   pub binary : List ℕ
 
-unfoldable pub toFloats : List (List Float) → Floats
-toFloats b = record { wlo = nth 0 b; whi = nth 1 b; elo = nth 2 b; ehi = nth 3 b; lo = nth 4 b; hi = nth 5 b; foldScale = nth 6 b; shift = nth 7 b; written = nth 8 b; rewritten = nth 9 b; kept = nth 10 b; bound = nth 11 b; coeffs = nth 12 b }
+-- from the strands v of block 0 and r of block 1, and the blocks
+unfoldable pub toFloats : List (List Float) → List (List Float) → List (List Float) → Floats
+toFloats v r b = record { wlo = nth 0 v; whi = nth 1 v; elo = nth 2 v; ehi = nth 3 v; lo = nth 0 r; hi = nth 1 r; foldScale = nth 2 r; shift = nth 3 r; written = nth 2 b; rewritten = nth 3 b; kept = nth 4 b; bound = nth 5 b; coeffs = nth 6 b }
 
-unfoldable pub toNumbers : List (List ℕ) → Numbers
-toNumbers b = record { queued = nth 0 b; dropped = nth 1 b; tightened = nth 2 b; fixed = nth 3 b; rewrote = nth 4 b; passes = nth 5 b; dirty = nth 6 b; coeffDirty = nth 7 b; queue = nth 8 b; wave = nth 9 b; len = nth 10 b; folded = nth 11 b; alive = nth 12 b; touched = nth 13 b; binaries = nth 14 b; fate = nth 15 b; slot = nth 16 b; badDec = nth 17 b; badInc = nth 18 b; vars = nth 19 b; binary = nth 20 b }
+-- from the strands m of block 6 and a of block 9, and the blocks
+unfoldable pub toNumbers : List (List ℕ) → List (List ℕ) → List (List ℕ) → Numbers
+toNumbers m a b = record { queued = nth 0 b; dropped = nth 1 b; tightened = nth 2 b; fixed = nth 3 b; rewrote = nth 4 b; passes = nth 5 b; dirty = nth 0 m; coeffDirty = nth 1 m; queue = nth 7 b; wave = nth 8 b; len = nth 0 a; folded = nth 10 b; alive = nth 1 a; touched = nth 11 b; binaries = nth 12 b; fate = nth 13 b; slot = nth 14 b; badDec = nth 15 b; badInc = nth 16 b; vars = nth 17 b; binary = nth 18 b }
+
+abbrev pub varStrands : Shape → List (List Float) → List (List Float)
+varStrands s b = strands nan 4 (s .vars) (nth 0 b)
+
+abbrev pub rowStrands : Shape → List (List Float) → List (List Float)
+rowStrands s b = strands nan 4 (s .rows) (nth 1 b)
+
+abbrev pub markStrands : Shape → List (List ℕ) → List (List ℕ)
+markStrands s b = strands 0 2 (s .rows) (nth 6 b)
+
+abbrev pub aliveStrands : Shape → List (List ℕ) → List (List ℕ)
+aliveStrands s b = strands 0 2 (s .rows) (nth 9 b)
+
+unfoldable pub floatsIn : Shape → List (List Float) → Floats
+floatsIn s b = toFloats (varStrands s b) (rowStrands s b) b
+
+unfoldable pub numbersIn : Shape → List (List ℕ) → Numbers
+numbersIn s b = toNumbers (markStrands s b) (aliveStrands s b) b
 
 unfoldable pub floatsOf : Shape → List Float → Floats
-floatsOf s l = toFloats (blocks (fsizes s) l)
+floatsOf s l = floatsIn s (blocks (fsizes s) l)
 
 unfoldable pub numbersOf : Shape → List ℕ → Numbers
-numbersOf s l = toNumbers (blocks (nsizes s) l)
+numbersOf s l = numbersIn s (blocks (nsizes s) l)
 
 abbrev pub put-wlo : ℕ → Float → Floats → Floats
 put-wlo i x f = record { wlo = set (f .wlo) i x; whi = f .whi; elo = f .elo; ehi = f .ehi; lo = f .lo; hi = f .hi; foldScale = f .foldScale; shift = f .shift; written = f .written; rewritten = f .rewritten; kept = f .kept; bound = f .bound; coeffs = f .coeffs }

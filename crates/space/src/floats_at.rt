@@ -1,7 +1,7 @@
-// The working floats: one function to read and one to write each block.
+// The working floats: one function to read and one to write each. A variable's four bounds stand side by side, as do a row's lo, hi, foldScale and shift.
 ghost use mathlib.Core.Path.{_≡_};
-ghost use Prim.Native.Nat.{_+_, _*_, _≤_, _<_};
-ghost use lib.ListN.{length, getD};
+ghost use Prim.Native.Nat.{_+_, _*_, _<_};
+ghost use lib.ListN.{getD};
 ghost use lib.Ieee.{nan};
 ghost use Rattle.space.specs.Store.{floatsOf, HoldsF, put-wlo, put-whi, put-elo, put-ehi, put-lo, put-hi, put-foldScale, put-shift, put-written, put-rewritten, put-kept, put-bound, put-coeffs};
 use crate::Shape;
@@ -11,14 +11,14 @@ pub fn get_wlo(w: &[f64], s: Shape, i: usize) -> f64
     requires { ⌜ (i < s .vars) × HoldsF s (now w) ⌝ }
     ensures { λ z. ⌜ z ≡ getD (floatsOf s (now (w .entry)) .wlo) i nan ⌝ }
 {
-    w[i]
+    w[4 * i]
 }
 
 pub fn put_wlo(w: &mut [f64], s: Shape, i: usize, x: f64)
     requires { ⌜ (i < s .vars) × HoldsF s (now w) ⌝ }
     ensures { λ _. ⌜ floatsOf s (now (w .exit)) ≡ put-wlo i x (floatsOf s (now (w .entry))) ⌝ }
 {
-    w[i] = x;
+    w[4 * i] = x;
 }
 
 // Working upper bound.
@@ -26,16 +26,14 @@ pub fn get_whi(w: &[f64], s: Shape, i: usize) -> f64
     requires { ⌜ (i < s .vars) × HoldsF s (now w) ⌝ }
     ensures { λ z. ⌜ z ≡ getD (floatsOf s (now (w .entry)) .whi) i nan ⌝ }
 {
-    let vars = s.vars;
-    w[vars + i]
+    w[4 * i + 1]
 }
 
 pub fn put_whi(w: &mut [f64], s: Shape, i: usize, x: f64)
     requires { ⌜ (i < s .vars) × HoldsF s (now w) ⌝ }
     ensures { λ _. ⌜ floatsOf s (now (w .exit)) ≡ put-whi i x (floatsOf s (now (w .entry))) ⌝ }
 {
-    let vars = s.vars;
-    w[vars + i] = x;
+    w[4 * i + 1] = x;
 }
 
 // Emitted lower bound.
@@ -43,16 +41,14 @@ pub fn get_elo(w: &[f64], s: Shape, i: usize) -> f64
     requires { ⌜ (i < s .vars) × HoldsF s (now w) ⌝ }
     ensures { λ z. ⌜ z ≡ getD (floatsOf s (now (w .entry)) .elo) i nan ⌝ }
 {
-    let vars = s.vars;
-    w[2 * vars + i]
+    w[4 * i + 2]
 }
 
 pub fn put_elo(w: &mut [f64], s: Shape, i: usize, x: f64)
     requires { ⌜ (i < s .vars) × HoldsF s (now w) ⌝ }
     ensures { λ _. ⌜ floatsOf s (now (w .exit)) ≡ put-elo i x (floatsOf s (now (w .entry))) ⌝ }
 {
-    let vars = s.vars;
-    w[2 * vars + i] = x;
+    w[4 * i + 2] = x;
 }
 
 // Emitted upper bound.
@@ -60,16 +56,14 @@ pub fn get_ehi(w: &[f64], s: Shape, i: usize) -> f64
     requires { ⌜ (i < s .vars) × HoldsF s (now w) ⌝ }
     ensures { λ z. ⌜ z ≡ getD (floatsOf s (now (w .entry)) .ehi) i nan ⌝ }
 {
-    let vars = s.vars;
-    w[3 * vars + i]
+    w[4 * i + 3]
 }
 
 pub fn put_ehi(w: &mut [f64], s: Shape, i: usize, x: f64)
     requires { ⌜ (i < s .vars) × HoldsF s (now w) ⌝ }
     ensures { λ _. ⌜ floatsOf s (now (w .exit)) ≡ put-ehi i x (floatsOf s (now (w .entry))) ⌝ }
 {
-    let vars = s.vars;
-    w[3 * vars + i] = x;
+    w[4 * i + 3] = x;
 }
 
 // Lower side of row i.
@@ -78,7 +72,7 @@ pub fn get_lo(w: &[f64], s: Shape, i: usize) -> f64
     ensures { λ z. ⌜ z ≡ getD (floatsOf s (now (w .entry)) .lo) i nan ⌝ }
 {
     let vars = s.vars;
-    w[4 * vars + i]
+    w[4 * vars + 4 * i]
 }
 
 pub fn put_lo(w: &mut [f64], s: Shape, i: usize, x: f64)
@@ -86,7 +80,7 @@ pub fn put_lo(w: &mut [f64], s: Shape, i: usize, x: f64)
     ensures { λ _. ⌜ floatsOf s (now (w .exit)) ≡ put-lo i x (floatsOf s (now (w .entry))) ⌝ }
 {
     let vars = s.vars;
-    w[4 * vars + i] = x;
+    w[4 * vars + 4 * i] = x;
 }
 
 // Upper side.
@@ -95,8 +89,7 @@ pub fn get_hi(w: &[f64], s: Shape, i: usize) -> f64
     ensures { λ z. ⌜ z ≡ getD (floatsOf s (now (w .entry)) .hi) i nan ⌝ }
 {
     let vars = s.vars;
-    let rows = s.rows;
-    w[4 * vars + rows + i]
+    w[4 * vars + 4 * i + 1]
 }
 
 pub fn put_hi(w: &mut [f64], s: Shape, i: usize, x: f64)
@@ -104,8 +97,7 @@ pub fn put_hi(w: &mut [f64], s: Shape, i: usize, x: f64)
     ensures { λ _. ⌜ floatsOf s (now (w .exit)) ≡ put-hi i x (floatsOf s (now (w .entry))) ⌝ }
 {
     let vars = s.vars;
-    let rows = s.rows;
-    w[4 * vars + rows + i] = x;
+    w[4 * vars + 4 * i + 1] = x;
 }
 
 // Sum of the magnitudes folded out.
@@ -114,8 +106,7 @@ pub fn get_fold_scale(w: &[f64], s: Shape, i: usize) -> f64
     ensures { λ z. ⌜ z ≡ getD (floatsOf s (now (w .entry)) .foldScale) i nan ⌝ }
 {
     let vars = s.vars;
-    let rows = s.rows;
-    w[4 * vars + 2 * rows + i]
+    w[4 * vars + 4 * i + 2]
 }
 
 pub fn put_fold_scale(w: &mut [f64], s: Shape, i: usize, x: f64)
@@ -123,8 +114,7 @@ pub fn put_fold_scale(w: &mut [f64], s: Shape, i: usize, x: f64)
     ensures { λ _. ⌜ floatsOf s (now (w .exit)) ≡ put-foldScale i x (floatsOf s (now (w .entry))) ⌝ }
 {
     let vars = s.vars;
-    let rows = s.rows;
-    w[4 * vars + 2 * rows + i] = x;
+    w[4 * vars + 4 * i + 2] = x;
 }
 
 // Signed sum of the terms folded out.
@@ -133,8 +123,7 @@ pub fn get_shift(w: &[f64], s: Shape, i: usize) -> f64
     ensures { λ z. ⌜ z ≡ getD (floatsOf s (now (w .entry)) .shift) i nan ⌝ }
 {
     let vars = s.vars;
-    let rows = s.rows;
-    w[4 * vars + 3 * rows + i]
+    w[4 * vars + 4 * i + 3]
 }
 
 pub fn put_shift(w: &mut [f64], s: Shape, i: usize, x: f64)
@@ -142,8 +131,7 @@ pub fn put_shift(w: &mut [f64], s: Shape, i: usize, x: f64)
     ensures { λ _. ⌜ floatsOf s (now (w .exit)) ≡ put-shift i x (floatsOf s (now (w .entry))) ⌝ }
 {
     let vars = s.vars;
-    let rows = s.rows;
-    w[4 * vars + 3 * rows + i] = x;
+    w[4 * vars + 4 * i + 3] = x;
 }
 
 // The binding's magnitude as written.

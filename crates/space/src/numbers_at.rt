@@ -1,7 +1,7 @@
-// The working numbers: one function to read and one to write each block, and the counts.
+// The working numbers: one function to read and one to write each, and the counts. A row's two marks stand side by side, as do its len and alive.
 ghost use mathlib.Core.Path.{_≡_};
-ghost use Prim.Native.Nat.{_+_, _*_, _%_, _^_, _≤_, _<_};
-ghost use lib.ListN.{length, getD};
+ghost use Prim.Native.Nat.{_+_, _*_, _%_, _^_, _<_};
+ghost use lib.ListN.{getD};
 ghost use Rattle.space.specs.Store.{numbersOf, HoldsN, put-queued, put-dropped, put-tightened, put-fixed, put-rewrote, put-passes, put-dirty, put-coeffDirty, put-queue, put-wave, put-len, put-folded, put-alive, put-touched, put-binaries, put-fate, put-slot, put-badDec, put-badInc, put-vars, put-binary};
 use crate::Shape;
 
@@ -132,14 +132,14 @@ pub fn get_dirty(m: &[usize], s: Shape, i: usize) -> usize
     requires { ⌜ (i < s .rows) × HoldsN s (now m) ⌝ }
     ensures { λ z. ⌜ z ≡ getD (numbersOf s (now (m .entry)) .dirty) i 0 ⌝ }
 {
-    m[6 + i]
+    m[6 + 2 * i]
 }
 
 pub fn put_dirty(m: &mut [usize], s: Shape, i: usize, x: usize)
     requires { ⌜ (i < s .rows) × HoldsN s (now m) ⌝ }
     ensures { λ _. ⌜ numbersOf s (now (m .exit)) ≡ put-dirty i x (numbersOf s (now (m .entry))) ⌝ }
 {
-    m[6 + i] = x;
+    m[6 + 2 * i] = x;
 }
 
 // Whether the coefficient pass has to look at row i, 1 or 0.
@@ -147,16 +147,14 @@ pub fn get_coeff_dirty(m: &[usize], s: Shape, i: usize) -> usize
     requires { ⌜ (i < s .rows) × HoldsN s (now m) ⌝ }
     ensures { λ z. ⌜ z ≡ getD (numbersOf s (now (m .entry)) .coeffDirty) i 0 ⌝ }
 {
-    let rows = s.rows;
-    m[6 + rows + i]
+    m[6 + 2 * i + 1]
 }
 
 pub fn put_coeff_dirty(m: &mut [usize], s: Shape, i: usize, x: usize)
     requires { ⌜ (i < s .rows) × HoldsN s (now m) ⌝ }
     ensures { λ _. ⌜ numbersOf s (now (m .exit)) ≡ put-coeffDirty i x (numbersOf s (now (m .entry))) ⌝ }
 {
-    let rows = s.rows;
-    m[6 + rows + i] = x;
+    m[6 + 2 * i + 1] = x;
 }
 
 // Place i of the queue.
@@ -199,7 +197,7 @@ pub fn get_len(m: &[usize], s: Shape, i: usize) -> usize
     ensures { λ z. ⌜ z ≡ getD (numbersOf s (now (m .entry)) .len) i 0 ⌝ }
 {
     let rows = s.rows;
-    m[6 + 4 * rows + i]
+    m[6 + 4 * rows + 2 * i]
 }
 
 pub fn put_len(m: &mut [usize], s: Shape, i: usize, x: usize)
@@ -207,7 +205,7 @@ pub fn put_len(m: &mut [usize], s: Shape, i: usize, x: usize)
     ensures { λ _. ⌜ numbersOf s (now (m .exit)) ≡ put-len i x (numbersOf s (now (m .entry))) ⌝ }
 {
     let rows = s.rows;
-    m[6 + 4 * rows + i] = x;
+    m[6 + 4 * rows + 2 * i] = x;
 }
 
 // How many folded terms: they stand at the back of its span, the first one last.
@@ -216,7 +214,7 @@ pub fn get_folded(m: &[usize], s: Shape, i: usize) -> usize
     ensures { λ z. ⌜ z ≡ getD (numbersOf s (now (m .entry)) .folded) i 0 ⌝ }
 {
     let rows = s.rows;
-    m[6 + 5 * rows + i]
+    m[6 + 6 * rows + i]
 }
 
 pub fn put_folded(m: &mut [usize], s: Shape, i: usize, x: usize)
@@ -224,7 +222,7 @@ pub fn put_folded(m: &mut [usize], s: Shape, i: usize, x: usize)
     ensures { λ _. ⌜ numbersOf s (now (m .exit)) ≡ put-folded i x (numbersOf s (now (m .entry))) ⌝ }
 {
     let rows = s.rows;
-    m[6 + 5 * rows + i] = x;
+    m[6 + 6 * rows + i] = x;
 }
 
 // Whether row i is at work, 1 or 0.
@@ -233,7 +231,7 @@ pub fn get_alive(m: &[usize], s: Shape, i: usize) -> usize
     ensures { λ z. ⌜ z ≡ getD (numbersOf s (now (m .entry)) .alive) i 0 ⌝ }
 {
     let rows = s.rows;
-    m[6 + 6 * rows + i]
+    m[6 + 4 * rows + 2 * i + 1]
 }
 
 pub fn put_alive(m: &mut [usize], s: Shape, i: usize, x: usize)
@@ -241,7 +239,7 @@ pub fn put_alive(m: &mut [usize], s: Shape, i: usize, x: usize)
     ensures { λ _. ⌜ numbersOf s (now (m .exit)) ≡ put-alive i x (numbersOf s (now (m .entry))) ⌝ }
 {
     let rows = s.rows;
-    m[6 + 6 * rows + i] = x;
+    m[6 + 4 * rows + 2 * i + 1] = x;
 }
 
 // Whether it was rewritten, 1 or 0.

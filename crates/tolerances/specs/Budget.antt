@@ -1,21 +1,21 @@
 -- A ROW'S TOLERANCE, MARGIN AND BUDGET, the tolerance less the margin, are each from 0 to 3/8, for magnitudes up to 2 ^ 45 and up to 256 terms; so is a bound's tolerance. 1e-14 * 2 ^ 45 is below 3/8.
 use mathlib.Core.Path.{_≡_, refl, sym, ap, _∙_, subst}
-use Prim.Native.Nat.{ℕ, zero, suc, _+_, _-_, _*_, _^_, _≤_, _<_, min, zero-le}
-use native.Mathlib.Nat.{le-trans, le-of-eq, mul-le-mul, mul-le-mul-right, mul-comm, add-zero}
+use Prim.Native.Nat.{ℕ, _+_, _-_, _*_, _^_, _≤_, _<_, zero-le}
+use native.Mathlib.Nat.{le-trans, le-of-eq, mul-le-mul-right, mul-comm, add-zero}
 use native.Mathlib.Omega.{arith}
 use mathlib.Core.Bool.{Bool, true, false, not}
 use lib.Dec.{T, lit≤, lit<}
-use lib.IntN.{ℤ, pos, negsuc, negℤ, _+ℤ_, _-ℤ_}
+use lib.IntN.{ℤ, pos, _+ℤ_, _-ℤ_}
 use lib.Ieee.{Float, binary64, ofInt, ofBits, fits, lt}
-use Rattle.floats.specs.Zed.{P, N, A, _⊑_, _⊏_, side, sub-parts}
+use Rattle.floats.specs.Zed.{P, A, _⊑_, side, sub-parts}
 use Rattle.floats.specs.Value.{mags, sign, units, Num}
 use Rattle.floats.specs.Norm.{Parts, parts-units}
-use Rattle.floats.specs.Order.{Real, num-real, rank, rank-num, nlt→⊑, lt→⊏}
+use Rattle.floats.specs.Order.{num-real, rank, rank-num, nlt→⊑}
 use Rattle.floats.specs.Meaning.{minf-first, minf-second}
 use Rattle.floats.specs.Ranks as K
 use Rattle.floats.specs.Ranks.{sub-result, held-of}
 use Rattle.floats.specs.Points.{int, Bounded, Is, of-is, add-is, of-units, whole-num, abs-is}
-use Rattle.floats.specs.WholeRounding.{NonNeg, Tol, nonneg-real, nonneg-rank, tol-real, tol-low, tol-high, tol-of, tol-num, tol-most, tol-least, small-num, zero-held, link, sub-above, sub-below}
+use Rattle.floats.specs.WholeRounding.{NonNeg, Tol, nonneg-real, nonneg-rank, tol-real, tol-of, tol-num, tol-most, tol-least, small-num, zero-held, link, sub-above, sub-below}
 use Rattle.floats.specs.Slacks.{product-nonneg, product-most, whole-nonneg, roundoff, eighths-held, most-units, max-tol, pos-parts}
 use Rattle.floats.specs.Num.{choose, _⊕_, _⊖_, _⊗_, 2f, ½f, abs, isFinite, minf, ofCount}
 use Rattle.floats.specs.Whole as W

@@ -1,12 +1,12 @@
 -- THE FLOAT LAWS of the farm theorem, as one record, and the proof that they hold: `laws`. Each is proved in `floats` (Points, Compare, WholeRounding, Quotients, Slacks) or in Budget.
-use Prim.Native.Nat.{ℕ, zero, suc, _+_, _-_, _*_, _^_, _≤_, _<_}
+use Prim.Native.Nat.{ℕ, _+_, _-_, _*_, _^_, _≤_}
 use mathlib.Core.Path.{_≡_, refl}
 use mathlib.Core.Logic.{_≢_}
-use mathlib.Core.Bool.{Bool, true, false, not, _&&_, _||_}
+use mathlib.Core.Bool.{false}
 use lib.Dec.{T, eqb, ltb}
-use lib.IntN.{ℤ, pos, negsuc, negℤ, _+ℤ_, _-ℤ_, _*ℤ_}
-use lib.Ieee.{Float, binary64, lt, le, eq, neg, round, ofInt, ofBits}
-use Rattle.floats.specs.Num.{_⊕_, _⊖_, _⊗_, _⊘_, 0f, ½f, isFinite, abs, maxf, minf, floor, ceil}
+use lib.IntN.{ℤ, pos, _+ℤ_, _-ℤ_, _*ℤ_}
+use lib.Ieee.{Float, binary64, lt, eq, round, ofInt, ofBits}
+use Rattle.floats.specs.Num.{_⊕_, _⊖_, _⊗_, _⊘_, 0f, ½f, isFinite, abs, maxf, floor, ceil}
 use Rattle.floats.specs.Zed.{P, N, A, _⊑_, _⊏_}
 use Rattle.floats.specs.Points.{int, Whole, Bounded, Held, _≼_, _≺_, _⊀_, Is}
 use Rattle.floats.specs.Points as points
@@ -76,7 +76,6 @@ pub record Laws : Type 0 where
   pub nonneg-add : {x y : Float} → NonNeg x → NonNeg y → NonNeg (x ⊕ y)
   pub nonneg-mul : {a t : Float} → Whole a → pos 0 ⊑ int a → Tol t → NonNeg (a ⊗ t)
   pub nonneg-div : {x a : Float} → NonNeg x → Whole a → pos 0 ⊏ int a → NonNeg (x ⊘ a)
-  pub redundant : {m : Float} → Whole m → pos 0 ⊑ int m → NonNeg (REDUNDANT-MARGIN ⊗ m)
   pub roundoff : {m : Float} → Bounded (2 ^ 45) m → pos 0 ⊑ int m → Tol (ROUNDOFF-FLOOR ⊗ m)
   pub rest : {x y : Float} → Tol x → Tol y → Tol (maxf (x ⊖ y) 0f)
   pub budget : {t m : Float} (n : ℕ) → n ≤ 256 → Tol t → Bounded (2 ^ 45) m → pos 0 ⊑ int m → Tol (slackTol t m n)
@@ -124,7 +123,6 @@ laws =
       nonneg-add = slacks.nonneg-add;
       nonneg-mul = slacks.nonneg-mul;
       nonneg-div = slacks.nonneg-div;
-      redundant = slacks.redundant;
       roundoff = slacks.roundoff;
       rest = slacks.rest;
       budget = budgets.budget;

@@ -1,5 +1,5 @@
 -- A row's slack and its verdict, made of its terms one by one: `implied_slack` is a start, a step for each term and an end, and `row_violation` the verdict on what they give.
-use mathlib.Core.Path.{_≡_, refl, sym, ap, _∙_}
+use mathlib.Core.Path.{_≡_, refl, ap, _∙_}
 use Prim.Native.Nat.{ℕ}
 use mathlib.Core.Bool.{Bool, true, false, not, _&&_}
 use mathlib.Core.List.{List, [], _∷_}

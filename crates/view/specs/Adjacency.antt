@@ -4,7 +4,7 @@ use native.Mathlib.Omega.{arith}
 use native.Mathlib.Numerals.{add-one}
 use mathlib.Core.Path.{_≡_, refl, ap, sym, _∙_, subst}
 use mathlib.Core.Bool.{Bool, true, false}
-use mathlib.Core.List.{List, [], _∷_, _++_}
+use mathlib.Core.List.{List, [], _∷_}
 use lib.ListN.{length, getD}
 use lib.Seq.{slice}
 use Rattle.floats.specs.Num.{choose}
@@ -13,10 +13,8 @@ use Rattle.definition.specs.Work.{Work}
 use Rattle.definition.specs.Marks.{markRow, adjacent, markFrom, markVar}
 use Rattle.space.specs.declared.Shape.{Shape}
 use Rattle.space.specs.Store.{Numbers}
-use Rattle.view.specs.Call.{Call}
 use Rattle.view.specs.Shows.{Shows}
 use Rattle.view.specs.Inv.{Below}
-use Rattle.view.specs.Lists.{either}
 use Rattle.view.specs.Acts.{ReadyN, ActsN, Any}
 use Rattle.view.specs.Marks.{markAll}
 

@@ -1,9 +1,8 @@
 -- Bounds and counts: what one store to a bound or a count does to the state.
-use Prim.Native.Nat.{ℕ, zero, suc, _+_, _-_, _%_, _^_, _≤_, _<_}
+use Prim.Native.Nat.{ℕ, _+_, _-_, _%_, _^_}
 use native.Mathlib.Omega.{arith}
-use mathlib.Core.Path.{_≡_, refl, ap, sym, _∙_, subst}
-use mathlib.Core.Bool.{Bool, true, false}
-use mathlib.Core.List.{List, [], _∷_, _++_, map}
+use mathlib.Core.Path.{_≡_, ap, sym, _∙_, subst}
+use mathlib.Core.List.{List}
 use lib.ListN.{length, getD, set, length-set}
 use lib.Seq.{getD-set-same}
 use lib.Ieee.{Float, nan}
@@ -15,8 +14,7 @@ use Rattle.definition.specs.Bounds.{fix, markTightened}
 use Rattle.space.specs.declared.Shape.{Shape}
 use Rattle.space.specs.declared.Step.the-variants.{Stop, Next}
 use Rattle.space.specs.Store.{Floats, Numbers, put-wlo, put-whi, put-elo, put-ehi, put-fixed, put-tightened}
-use Rattle.view.specs.Call.{Call}
-use Rattle.view.specs.Shows.{Shows, StepShown, stopped, went, Counted, tallyOf, partsOf}
+use Rattle.view.specs.Shows.{Shows, StepShown, stopped, went}
 use Rattle.view.specs.Inv.{Inv}
 use Rattle.view.specs.Acts.{Acts, ActsN, Keeps, acts-then, then-numbers, of-numbers}
 use Rattle.view.specs.Lists.{count-mod}

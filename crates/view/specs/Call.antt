@@ -1,10 +1,9 @@
 -- The call as the port's functions have it: an accepted model M, and its scalars s. What an accepted model is, fact by fact.
-use Prim.Native.Nat.{ℕ, zero, suc, _+_, _-_, _≤_, _<_}
+use Prim.Native.Nat.{ℕ, suc, _-_, _≤_, _<_}
 use mathlib.Core.Path.{_≡_}
-use mathlib.Core.Bool.{Bool, true, false}
 use lib.ListN.{length, getD}
 use Rattle.definition.specs.Params.{params}
-use Rattle.definition.specs.Model.{Model, from, upto, nnz, isMip}
+use Rattle.definition.specs.Model.{Model, from, upto, isMip}
 use Rattle.space.specs.declared.Shape.{Shape}
 
 pub record Call (M : Model) (s : Shape) : Type 0 where

@@ -7,7 +7,7 @@ use mathlib.Core.List.{List, [], _∷_, _++_}
 use mathlib.Core.Option.{Option, none, some}
 use lib.Dec.{eqb}
 use lib.ListN.{length, getD}
-use lib.Ieee.{Float, eq}
+use lib.Ieee.{eq}
 use Rattle.floats.specs.Num.{0f}
 use Rattle.tolerances.specs.Tol.{Term}
 use Rattle.definition.specs.Model.{Model, written, Row, Binding}

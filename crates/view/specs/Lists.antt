@@ -1,12 +1,12 @@
 -- Facts about lists, choices and flags that the views share.
 use Prim.Native.Nat.{ℕ, zero, suc, _+_, _-_, _%_, _^_, _≤_, _<_}
 use native.Mathlib.Omega.{arith}
-use mathlib.Core.Path.{_≡_, refl, ap, sym, _∙_}
+use mathlib.Core.Path.{_≡_, refl, ap, _∙_}
 use mathlib.Core.Logic.{_≢_}
 use mathlib.Core.Bool.{Bool, true, false}
 use mathlib.Core.List.{List, [], _∷_, _++_, map}
 use lib.Dec.{eqb, eqb·suc-suc, eqb·suc-zero}
-use lib.ListN.{length, getD, set, length-append}
+use lib.ListN.{length, getD, set}
 use Rattle.floats.specs.Num.{choose}
 use Rattle.view.specs.Shows.{isOne}
 use Rattle.view.specs.Inv.{marked, Below}

@@ -6,18 +6,17 @@ use mathlib.Core.Path.{_≡_, refl, ap, sym, _∙_, subst}
 use mathlib.Core.Logic.{_≢_}
 use mathlib.Core.Bool.{Bool, true, false}
 use mathlib.Core.List.{List, [], _∷_, _++_, map}
-use lib.ListN.{length, getD, set, take, drop, length-set, length-append, length-take, length-drop}
-use lib.Seq.{take-suc, drop-append-le, getD-take, getD-drop, length-slice, map-set-same, take-suc-set, slice, slice-cons, slice-empty, getD-set-same, getD-set-other, take-set-le, length-take-le}
-use Rattle.floats.specs.Num.{choose}
+use lib.ListN.{length, getD, set, take, drop, length-set, length-append}
+use lib.Seq.{take-suc, drop-append-le, getD-take, getD-drop, length-slice, take-suc-set, slice, slice-empty, getD-set-same, length-take-le}
 use Rattle.definition.specs.Model.{Model}
-use Rattle.definition.specs.Work.{Work, withMarks, hasTerm}
+use Rattle.definition.specs.Work.{Work, withMarks}
 use Rattle.definition.specs.Marks.{markRow, adjacent, markFrom, markVar}
 use Rattle.space.specs.declared.Shape.{Shape}
 use Rattle.space.specs.Store.{Floats, Numbers, put-dirty, put-coeffDirty, put-queue, put-queued}
 use Rattle.view.specs.Call.{Call}
-use Rattle.view.specs.Shows.{isOne, Shows, tallyOf, partsOf}
-use Rattle.view.specs.Inv.{Inv, marked, Below}
-use Rattle.view.specs.Acts.{Ready, ReadyN, ActsN, Any, Keeps, then-numbers, ready-next}
+use Rattle.view.specs.Shows.{isOne, Shows}
+use Rattle.view.specs.Inv.{Inv, Below}
+use Rattle.view.specs.Acts.{ReadyN, ActsN, Any, Keeps, then-numbers, ready-next}
 use Rattle.view.specs.Lists.{yes, no, either, one-is, one-not, map-set, getD-map, length-map, marked-le, clear-in, marked-set, below-add}
 
 -- ---- the definition's markRow, by whether the row is queued

@@ -1,21 +1,17 @@
 -- One row changes: what shows the others still shows them, since spans do not overlap.
-use Prim.Native.Nat.{ℕ, zero, suc, _+_, _-_, _%_, _^_, _≤_, _<_}
+use Prim.Native.Nat.{ℕ, zero, suc, _-_, _<_}
 use native.Mathlib.Omega.{arith}
-use mathlib.Core.Path.{_≡_, refl, ap, sym, _∙_, subst}
+use mathlib.Core.Path.{_≡_, refl, ap, sym, _∙_}
 use mathlib.Core.Logic.{_≢_, _⊎_, inl, inr}
-use mathlib.Core.Bool.{Bool, true, false}
-use mathlib.Core.List.{List, [], _∷_}
+use mathlib.Core.Bool.{true}
+use mathlib.Core.List.{List}
 use lib.ListN.{length, getD, set, length-set}
 use lib.Seq.{getD-set-same, getD-set-other}
-use Rattle.definition.specs.Model.{Model, from, upto, nnz, Row, withAlive, dropped}
-use Rattle.definition.specs.Work.{Work, withRow, withCounts, noRow, dropRow}
-use Rattle.space.specs.declared.Shape.{Shape}
-use Rattle.space.specs.Store.{Floats, Numbers, put-alive, put-dropped}
-use Rattle.view.specs.Call.{Call}
-use Rattle.view.specs.Shows.{isOne, Shows, Counted, tallyOf, Parts, partsOf, RowShown}
+use Rattle.definition.specs.Model.{Model, Row}
+use Rattle.definition.specs.Work.{Work, withRow, noRow}
+use Rattle.space.specs.Store.{Floats, Numbers}
+use Rattle.view.specs.Shows.{isOne, Shows, tallyOf, partsOf, RowShown}
 use Rattle.view.specs.Inv.{Inv, RowInv}
-use Rattle.view.specs.Acts.{Acts, ActsN, Keeps}
-use Rattle.view.specs.Lists.{zero-is, count-mod}
 
 -- two numbers are equal or not
 pub same? : (a b : ℕ) → (a ≡ b) ⊎ (a ≢ b)

@@ -12,7 +12,7 @@ use Rattle.space.specs.Store.{Floats, Numbers}
 use Rattle.view.specs.Call.{Call}
 use Rattle.view.specs.Shows.{Shows, StepShown, stopped, went}
 use Rattle.view.specs.Inv.{Inv}
-use Rattle.view.specs.Acts.{Ready, Acts, Tries, Reads, Keeps, ReadyN, ActsN}
+use Rattle.view.specs.Acts.{Ready, Acts, Tries, Reads, Keeps, ActsN}
 
 -- the invariant, of a step that goes on
 pub data InvStep (M : Model) (k : ℕ) : Step → Type 0 where

@@ -2,13 +2,12 @@
 use Prim.Native.Nat.{ℕ, zero, suc, _+_, _-_, _≤_, _<_}
 use native.Mathlib.Omega.{arith}
 use mathlib.Core.Path.{_≡_, refl, ap, sym, _∙_, subst}
-use mathlib.Core.Bool.{Bool, true, false}
+use mathlib.Core.Bool.{true, false}
 use mathlib.Core.List.{List, [], _∷_}
 use lib.ListN.{length, getD}
-use Rattle.floats.specs.Num.{choose}
 use Rattle.definition.specs.Params.{params, maxWaves}
 use Rattle.definition.specs.Model.{Model}
-use Rattle.definition.specs.Work.{Work, Step, stop, next, _>>=_}
+use Rattle.definition.specs.Work.{Work, Step, next, _>>=_}
 use Rattle.definition.specs.Wave.{idle, wave, waves}
 use Rattle.space.specs.declared.Shape.{Shape}
 use Rattle.space.specs.declared.Step.the-variants.{Stop, Next}

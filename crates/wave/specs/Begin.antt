@@ -1,5 +1,5 @@
 -- A wave begins: the queued rows are copied to the wave's block, the queue is empty, and the wave is counted.
-use Prim.Native.Nat.{ℕ, zero, suc, _+_, _-_, _≤_, _<_}
+use Prim.Native.Nat.{ℕ, suc, _+_, _-_, _≤_, _<_}
 use native.Mathlib.Omega.{arith}
 use native.Mathlib.Numerals.{add-one}
 use mathlib.Core.Path.{_≡_, refl, ap, sym, _∙_, subst}
@@ -11,14 +11,14 @@ use Rattle.definition.specs.Work.{Work, withMarks, withCounts, Step, next}
 use Rattle.definition.specs.Wave.{waveRows, wave}
 use Rattle.space.specs.declared.Shape.{Shape}
 use Rattle.space.specs.declared.Step as code
-use Rattle.space.specs.declared.Step.the-variants.{Stop, Next}
+use Rattle.space.specs.declared.Step.the-variants.{Next}
 use Rattle.space.specs.Store.{Floats, Numbers, put-wave, put-queued, put-passes}
 use Rattle.view.specs.Call.{Call}
 use Rattle.view.specs.Shows.{Shows, StepShown}
-use Rattle.view.specs.Inv.{Inv, Below, marked}
+use Rattle.view.specs.Inv.{Inv, Below}
 use Rattle.view.specs.Lists.{marked-le}
 use Rattle.view.specs.Acts.{Ready}
-use Rattle.view.specs.Steps.{InvStep, KeepsStep, went-is}
+use Rattle.view.specs.Steps.{KeepsStep, went-is}
 use Rattle.rows.specs.Same.{same-next}
 use Rattle.rows.specs.Steps.{inv-next}
 use Rattle.wave.specs.Rows.{ReadyWave, TriesWave, inv-rows, passes-rows}

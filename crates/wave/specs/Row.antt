@@ -1,5 +1,5 @@
 -- One row of a wave: its mark is cleared, so that one row less is still to come; then it is folded and handled.
-use Prim.Native.Nat.{ℕ, zero, suc, _+_, _-_, _≤_, _<_}
+use Prim.Native.Nat.{ℕ, suc, _-_, _<_}
 use native.Mathlib.Omega.{arith}
 use mathlib.Core.Path.{_≡_, refl, ap, sym, _∙_, subst}
 use mathlib.Core.Bool.{Bool, true, false}
@@ -7,19 +7,19 @@ use mathlib.Core.List.{List}
 use lib.ListN.{length, getD, set, length-set}
 use lib.Ieee.{Float}
 use Rattle.definition.specs.Model.{Model, Row}
-use Rattle.definition.specs.Work.{Work, withMarks, withRow, Step, stop, next, noRow}
+use Rattle.definition.specs.Work.{Work, withMarks, withRow, Step, next}
 use Rattle.definition.specs.Folds.{foldFixed}
 use Rattle.definition.specs.Wave.{byCount, waveRow}
 use Rattle.space.specs.declared.Shape.{Shape}
 use Rattle.space.specs.declared.Step as code
-use Rattle.space.specs.declared.Step.the-variants.{Stop, Next}
+use Rattle.space.specs.declared.Step.the-variants.{Next}
 use Rattle.space.specs.Store.{Floats, Numbers, put-dirty}
 use Rattle.view.specs.Call.{Call}
 use Rattle.view.specs.Shows.{isOne, Shows, StepShown}
-use Rattle.view.specs.Inv.{Inv, marked}
-use Rattle.view.specs.Lists.{yes, no, either, one-is, one-not, zero-is, map-set, marked-clear}
+use Rattle.view.specs.Inv.{Inv}
+use Rattle.view.specs.Lists.{yes, no, either, one-not, zero-is, map-set, marked-clear}
 use Rattle.view.specs.Acts.{Ready, Acts, Tries, Any, ready-after}
-use Rattle.view.specs.Steps.{InvStep, goes, acts-under, ready-under}
+use Rattle.view.specs.Steps.{InvStep, goes, acts-under}
 use Rattle.view.specs.Known.{Written, Known, known-written}
 use Rattle.view.specs.Bounds.{went-by}
 use Rattle.view.specs.Rows.{row-now}

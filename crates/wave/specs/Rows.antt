@@ -1,5 +1,5 @@
 -- The rows of a wave, one after the other: what is left from the row looked at on gives the whole.
-use Prim.Native.Nat.{ℕ, zero, suc, _+_, _-_, _≤_, _<_}
+use Prim.Native.Nat.{ℕ, suc, _+_, _-_, _≤_, _<_}
 use native.Mathlib.Omega.{arith}
 use native.Mathlib.Numerals.{add-one}
 use mathlib.Core.Path.{_≡_, refl, ap, sym, _∙_, subst}
@@ -7,7 +7,7 @@ use mathlib.Core.List.{List, [], _∷_}
 use lib.ListN.{length, getD, take, drop, drop-of-length-le}
 use lib.Seq.{drop-cons, getD-take, length-take-le}
 use Rattle.definition.specs.Model.{Model}
-use Rattle.definition.specs.Work.{Work, Step, stop, next, _>>=_}
+use Rattle.definition.specs.Work.{Work, Step, next, _>>=_}
 use Rattle.definition.specs.Wave.{waveRow, waveRows}
 use Rattle.space.specs.declared.Shape.{Shape}
 use Rattle.space.specs.declared.Step as code

@@ -4,7 +4,7 @@ use native.Mathlib.Omega.{arith}
 use native.Mathlib.Numerals.{add-one}
 use mathlib.Core.Path.{_≡_, refl, ap, sym, _∙_}
 use mathlib.Core.List.{List, [], _∷_, _++_}
-use lib.ListN.{length, set, take, drop, replicate, length-set}
+use lib.ListN.{length, set, take, replicate, length-set}
 use lib.Seq.{take-suc-set, take-all}
 
 module _ {A : Type 0} (x : A) where

@@ -1,11 +1,10 @@
 -- The long-row cap of coefficient tightening is on live terms: a row with more than the short length of them and more eligible ones than the cap is left alone,
 -- and one that is not longer is rewritten wherever a term is eligible, however many terms it has as written.
-use Prim.Native.Nat.{ℕ, zero, suc, _≤_, _<_}
-use native.Mathlib.Omega.{arith}
-use mathlib.Core.Path.{_≡_, refl, sym, ap, _∙_}
-use mathlib.Core.Bool.{Bool, true, false, _&&_, _||_}
+use Prim.Native.Nat.{ℕ, _≤_, _<_}
+use mathlib.Core.Path.{_≡_, refl}
+use mathlib.Core.Bool.{Bool, true, false, _||_}
 use borrow.Author.Tests.{lt-ltb, le-ltb, ne-eqb}
-use lib.Dec.{eqb, ltb}
+use lib.Dec.{eqb}
 use lib.ListN.{length}
 use Rattle.definition.specs.Model.{Model, Row}
 use Rattle.definition.specs.Tighten.{spared}

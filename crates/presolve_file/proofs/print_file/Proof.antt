@@ -4,7 +4,7 @@ use mathlib.Core.Path.{refl, ap, _∙_}
 use mathlib.Core.List.{List}
 use denote.Ref.{now}
 use Rattle.print_result.specs.Printing.{printed}
-use Rattle.presolve_file.specs.Front.{Wide, read-refused, read-held, read-text}
+use Rattle.presolve_file.specs.Front.{read-refused, read-held, read-text}
 use borrow.Author.Needs.{needs}
 use Rattle.presolve_file.proofs.print_file.Statement.{statement}
 use Rattle.presolve_file.proofs.print_file.Tie as tie

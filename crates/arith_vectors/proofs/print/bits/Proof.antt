@@ -1,6 +1,6 @@
 -- What equals itself is no NaN, so it has a pattern.
 use borrow.Author.Needs.{needs}
-use mathlib.Core.Path.{_≡_, sym, subst}
+use mathlib.Core.Path.{_≡_}
 use mathlib.Core.Bool.{true, not, false≢true}
 use lib.Dec.{T}
 use lib.Ieee.{Float, nan, inf, fin, eq, isNan}

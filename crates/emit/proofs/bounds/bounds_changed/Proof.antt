@@ -1,10 +1,9 @@
 use Rattle.definition.specs.Emit.{sameBounds}
 use Rattle.emit.specs.Same.{SameTo, same-start, same-turn, same-differs, same-end, first-differs, second-differs, none-differs}
 use Rattle.space.specs.Blocks.{elo-length, ehi-length}
-use Prim.Native.Nat.{_-_, _≤_}
+use Prim.Native.Nat.{_-_}
 use native.Mathlib.Omega.{arith}
 use Rattle.space.specs.Store.{floatsOf}
-use borrow.Author.Needs.{needs}
 use Rattle.emit.proofs.bounds.bounds_changed.Statement.{statement}
 use Rattle.emit.proofs.bounds.bounds_changed.Tie as tie
 use Rattle.emit.proofs.bounds.bounds_changed.Reads as reads

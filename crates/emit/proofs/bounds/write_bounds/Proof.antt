@@ -1,10 +1,9 @@
 use Rattle.emit.specs.Filling.{Copied, copy-start, copy-kept, copy-turn, copy-end}
-use Prim.Native.Nat.{_-_, _≤_}
+use Prim.Native.Nat.{_-_}
 use native.Mathlib.Omega.{arith}
 use Rattle.space.specs.Store.{floatsOf}
 use lib.Ieee.{nan}
 use Rattle.space.specs.Blocks.{elo-length, ehi-length}
-use borrow.Author.Needs.{needs}
 use Rattle.emit.proofs.bounds.write_bounds.Statement.{statement}
 use Rattle.emit.proofs.bounds.write_bounds.Tie as tie
 use Rattle.emit.proofs.bounds.write_bounds.Reads as reads

@@ -3,7 +3,6 @@ use native.Mathlib.Omega.{arith}
 use Rattle.space.specs.Store.{numbersOf}
 use Rattle.emit.specs.Fates.{outAt, rewrittenAt, self}
 use Rattle.emit.specs.Filling.{Filled, fill-start, fill-kept, fill-room, fill-turn, fill-end}
-use borrow.Author.Needs.{needs}
 use Rattle.emit.proofs.entries.write_emitted.Statement.{statement}
 use Rattle.emit.proofs.entries.write_emitted.Tie as tie
 use Rattle.emit.proofs.entries.write_emitted.Reads as reads

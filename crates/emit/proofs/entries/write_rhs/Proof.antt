@@ -3,7 +3,6 @@ use native.Mathlib.Omega.{arith}
 use Rattle.space.specs.Store.{floatsOf, numbersOf}
 use Rattle.emit.specs.Fates.{outAt, sideAt}
 use Rattle.emit.specs.Filling.{Filled, fill-start, fill-kept, fill-room, fill-turn, fill-end}
-use borrow.Author.Needs.{needs}
 use Rattle.emit.proofs.entries.write_rhs.Statement.{statement}
 use Rattle.emit.proofs.entries.write_rhs.Tie as tie
 use Rattle.emit.proofs.entries.write_rhs.Reads as reads

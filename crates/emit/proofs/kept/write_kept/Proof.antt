@@ -3,7 +3,6 @@ use native.Mathlib.Omega.{arith}
 use Rattle.space.specs.Store.{numbersOf}
 use Rattle.emit.specs.Fates.{keptAt, self}
 use Rattle.emit.specs.Filling.{Filled, fill-start, fill-kept, fill-room, fill-turn, fill-end}
-use borrow.Author.Needs.{needs}
 use Rattle.emit.proofs.kept.write_kept.Statement.{statement}
 use Rattle.emit.proofs.kept.write_kept.Tie as tie
 use Rattle.emit.proofs.kept.write_kept.Reads as reads

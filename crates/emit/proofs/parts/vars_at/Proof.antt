@@ -1,5 +1,5 @@
 use native.Mathlib.Omega.{arith}
-use Rattle.emit.specs.Parts.{least-first, least-second, clipped}
+use Rattle.emit.specs.Parts.{least-second, clipped}
 use borrow.Author.Needs.{needs}
 use Rattle.emit.proofs.parts.vars_at.Statement.{statement}
 use Rattle.emit.proofs.parts.vars_at.Tie as tie

@@ -1,10 +1,9 @@
-use Prim.Native.Nat.{_-_, _≤_}
+use Prim.Native.Nat.{_-_}
 use native.Mathlib.Omega.{arith}
 use Rattle.space.specs.Store.{numbersOf}
 use Rattle.emit.specs.Fates.{outAt}
 use Rattle.emit.specs.Filling.{Filled, fill-start, fill-kept, fill-room, fill-turn, fill-end}
 use Rattle.emit.specs.Spans.{startAt, endAt, Before, before-start, before-turn}
-use borrow.Author.Needs.{needs}
 use Rattle.emit.proofs.spans.write_spans.Statement.{statement}
 use Rattle.emit.proofs.spans.write_spans.Tie as tie
 use Rattle.emit.proofs.spans.write_spans.Reads as reads

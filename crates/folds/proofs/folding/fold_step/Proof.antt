@@ -1,7 +1,7 @@
 use native.Mathlib.Omega.{arith}
-use mathlib.Core.Path.{refl, _∙_}
+use mathlib.Core.Path.{refl}
 use Rattle.folds.specs.Sized.{sized}
-use Rattle.folds.specs.FoldStep.{spans-long, live-in, stop-in, folds-in, var-in, push-in, fold-zero, fold-fixed-term, fold-stay}
+use Rattle.folds.specs.FoldStep.{spans-long, live-in, stop-in, var-in, push-in, fold-zero, fold-fixed-term, fold-stay}
 use borrow.Author.Needs.{needs}
 use Rattle.folds.proofs.folding.fold_step.Statement.{statement}
 use Rattle.folds.proofs.folding.fold_step.Tie as tie

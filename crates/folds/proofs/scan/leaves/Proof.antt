@@ -1,6 +1,5 @@
 use native.Mathlib.Omega.{arith}
 use Rattle.folds.specs.Scan.{leaves-zero, leaves-fixed}
-use borrow.Author.Needs.{needs}
 use Rattle.folds.proofs.scan.leaves.Statement.{statement}
 use Rattle.folds.proofs.scan.leaves.Tie as tie
 use Rattle.folds.proofs.scan.leaves.Reads as reads

@@ -1,6 +1,6 @@
 use Prim.Native.Nat.{_-_, _≤_}
 use native.Mathlib.Omega.{arith}
-use mathlib.Core.Path.{_≡_, _∙_, refl, subst}
+use mathlib.Core.Path.{_≡_, _∙_, refl}
 use lib.ListN.{length}
 use Rattle.space.specs.Store.{floatsOf, numbersOf}
 use Rattle.folds.specs.Sized.{sized}

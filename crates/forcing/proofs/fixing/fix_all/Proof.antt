@@ -7,7 +7,6 @@ use Rattle.view.specs.Steps.{ready-under, acts-under}
 use Rattle.rows.specs.Knowing.{Marks, marks-spans, marks-adj, span-at}
 use Rattle.rows.specs.Loop.{Turning, turning-ready, still-place, still-small, still-var}
 use Rattle.forcing.specs.Fixing.{Fixing, fixing-rows, fixing-start, fixing-turn, fixing-end}
-use borrow.Author.Needs.{needs}
 use Rattle.forcing.proofs.fixing.fix_all.Statement.{statement}
 use Rattle.forcing.proofs.fixing.fix_all.Tie as tie
 use Rattle.forcing.proofs.fixing.fix_all.Reads as reads

@@ -5,7 +5,6 @@ use Rattle.readers.specs.Reading.{domain-in}
 use Rattle.readers.specs.RowAt.{live-place, live-var}
 use Rattle.rows.specs.Knowing.{looks-spans, looks-domains, span-at}
 use Rattle.forcing.specs.Forced.{live-small, Testing, testing-start, testing-turn, testing-fails, testing-end}
-use borrow.Author.Needs.{needs}
 use Rattle.forcing.proofs.tests.all_forced.Statement.{statement}
 use Rattle.forcing.proofs.tests.all_forced.Tie as tie
 use Rattle.forcing.proofs.tests.all_forced.Reads as reads

@@ -1,5 +1,5 @@
 -- An accepted call: what its steps promise is the promise.
-use mathlib.Core.Path.{refl, sym, _∙_, subst}
+use mathlib.Core.Path.{refl, _∙_}
 use Rattle.presolve.specs.Steps.{accept, reduce-given, holds-floats, holds-numbers, holds-adjacency, has-room, ready-results, promise-stopped, promise-done, same-space, still-holds}
 use Rattle.reduce.specs.Reducing.{reduces-is}
 use borrow.Author.Needs.{needs}

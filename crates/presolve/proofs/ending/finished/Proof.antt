@@ -1,5 +1,5 @@
 -- `finished`: what write_results promises, and zeros.
-use mathlib.Core.Path.{refl, sym, _∙_}
+use mathlib.Core.Path.{refl, _∙_}
 use Rattle.presolve.specs.Steps.{same-space}
 use borrow.Author.Needs.{needs}
 use Rattle.presolve.proofs.ending.finished.Statement.{statement}

@@ -1,3 +1,4 @@
+-- `count_rewrote` puts one more than it reads, modulo 2^64.
 use borrow.Author.Needs.{needs}
 use Rattle.space.proofs.numbers_at.count_rewrote.Statement.{statement}
 use Rattle.space.proofs.numbers_at.count_rewrote.Tie as tie

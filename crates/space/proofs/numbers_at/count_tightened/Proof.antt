@@ -1,3 +1,4 @@
+-- `count_tightened` puts one more than it reads, modulo 2^64.
 use borrow.Author.Needs.{needs}
 use Rattle.space.proofs.numbers_at.count_tightened.Statement.{statement}
 use Rattle.space.proofs.numbers_at.count_tightened.Tie as tie

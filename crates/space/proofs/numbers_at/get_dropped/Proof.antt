@@ -1,3 +1,4 @@
+-- `get_dropped` reads the place of `dropped-at`, which the slice is long enough for.
 use native.Mathlib.Omega.{arith}
 use Rattle.space.specs.Blocks.{dropped-at}
 use borrow.Author.Needs.{needs}

@@ -1,3 +1,4 @@
+-- `get_fixed` reads the place of `fixed-at`, which the slice is long enough for.
 use native.Mathlib.Omega.{arith}
 use Rattle.space.specs.Blocks.{fixed-at}
 use borrow.Author.Needs.{needs}

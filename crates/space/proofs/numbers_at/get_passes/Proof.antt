@@ -1,3 +1,4 @@
+-- `get_passes` reads the place of `passes-at`, which the slice is long enough for.
 use native.Mathlib.Omega.{arith}
 use Rattle.space.specs.Blocks.{passes-at}
 use borrow.Author.Needs.{needs}

@@ -1,3 +1,4 @@
+-- `get_queued` reads the place of `queued-at`, which the slice is long enough for.
 use native.Mathlib.Omega.{arith}
 use Rattle.space.specs.Blocks.{queued-at}
 use borrow.Author.Needs.{needs}

@@ -1,3 +1,4 @@
+-- `get_rewrote` reads the place of `rewrote-at`, which the slice is long enough for.
 use native.Mathlib.Omega.{arith}
 use Rattle.space.specs.Blocks.{rewrote-at}
 use borrow.Author.Needs.{needs}

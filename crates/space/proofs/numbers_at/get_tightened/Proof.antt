@@ -1,3 +1,4 @@
+-- `get_tightened` reads the place of `tightened-at`, which the slice is long enough for.
 use native.Mathlib.Omega.{arith}
 use Rattle.space.specs.Blocks.{tightened-at}
 use borrow.Author.Needs.{needs}

@@ -1,3 +1,4 @@
+-- `get_wave` reads the place of `wave-at`, which the slice is long enough for.
 use Rattle.space.specs.Blocks.{wave-at}
 use borrow.Author.Needs.{needs}
 use Rattle.space.proofs.numbers_at.get_wave.Statement.{statement}
@@ -5,27 +6,27 @@ use Rattle.space.proofs.numbers_at.get_wave.Tie as tie
 use Rattle.space.proofs.numbers_at.get_wave.Reads as reads
 use Rattle.space.proofs.numbers_at.get_wave.Lts as lts
 
--- src/numbers_at.rt:185:11
+-- src/numbers_at.rt:183:11
 mul-result : tie.Need-mul-result
 mul-result c = search needs
 
--- src/numbers_at.rt:185:7
+-- src/numbers_at.rt:183:7
 add-result : tie.Need-add-result
 add-result c = search needs
 
--- src/numbers_at.rt:185:7
+-- src/numbers_at.rt:183:7
 add-result-2 : tie.Need-add-result-2
 add-result-2 c = search needs
 
--- src/numbers_at.rt:185:5
+-- src/numbers_at.rt:183:5
 mul-result-2 : tie.Need-mul-result-2
 mul-result-2 c = search needs
 
--- src/numbers_at.rt:185:5
+-- src/numbers_at.rt:183:5
 shared-slice-read-result : tie.Need-shared-slice-read-result
 shared-slice-read-result c = search needs
 
--- src/numbers_at.rt:180:1
+-- src/numbers_at.rt:178:1
 returns : tie.Need-returns
 returns c = search wave-at
 

@@ -1,3 +1,4 @@
+-- `put_dropped` writes the place of `dropped-put`, which the slice is long enough for.
 use native.Mathlib.Omega.{arith}
 use Rattle.space.specs.Blocks.{dropped-put}
 use borrow.Author.Needs.{needs}

@@ -1,3 +1,4 @@
+-- `put_fixed` writes the place of `fixed-put`, which the slice is long enough for.
 use native.Mathlib.Omega.{arith}
 use Rattle.space.specs.Blocks.{fixed-put}
 use borrow.Author.Needs.{needs}

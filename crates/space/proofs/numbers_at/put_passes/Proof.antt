@@ -1,3 +1,4 @@
+-- `put_passes` writes the place of `passes-put`, which the slice is long enough for.
 use native.Mathlib.Omega.{arith}
 use Rattle.space.specs.Blocks.{passes-put}
 use borrow.Author.Needs.{needs}

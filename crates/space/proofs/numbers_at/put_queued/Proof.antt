@@ -1,3 +1,4 @@
+-- `put_queued` writes the place of `queued-put`, which the slice is long enough for.
 use native.Mathlib.Omega.{arith}
 use Rattle.space.specs.Blocks.{queued-put}
 use borrow.Author.Needs.{needs}

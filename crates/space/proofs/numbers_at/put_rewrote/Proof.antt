@@ -1,3 +1,4 @@
+-- `put_rewrote` writes the place of `rewrote-put`, which the slice is long enough for.
 use native.Mathlib.Omega.{arith}
 use Rattle.space.specs.Blocks.{rewrote-put}
 use borrow.Author.Needs.{needs}

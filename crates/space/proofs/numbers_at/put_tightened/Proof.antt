@@ -1,3 +1,4 @@
+-- `put_tightened` writes the place of `tightened-put`, which the slice is long enough for.
 use native.Mathlib.Omega.{arith}
 use Rattle.space.specs.Blocks.{tightened-put}
 use borrow.Author.Needs.{needs}
