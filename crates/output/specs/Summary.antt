@@ -23,7 +23,7 @@ countsOf n = counts (getD (n .dropped) 0 0) (getD (n .tightened) 0 0) (getD (n .
 pub five-counts : {a a′ b b′ d d′ e e′ g g′ : ℕ} → a ≡ a′ → b ≡ b′ → d ≡ d′ → e ≡ e′ → g ≡ g′ → counts a b d e g ≡ counts a′ b′ d′ e′ g′
 five-counts p q r t u = rw (p, q, r, t, u)
 
--- z has the counts k: four of them modulo 2 ^ 64
+-- z has the counts k: four of them modulo 2 ^ 64, which none of them reaches (tally, `counts-fit`)
 pub record CountedAs (z k : Counts) : Type 0 where
   pub rowsDropped : z .rowsDropped ≡ k .rowsDropped % 2 ^ 64
   pub boundsTightened : z .boundsTightened ≡ k .boundsTightened % 2 ^ 64

@@ -1,5 +1,5 @@
 -- 01's DEMANDS ABOUT THE CALL ITSELF: what follows of the promise, in terms of the call's answer and of what the lent slices hold after it.
-use Prim.Native.Nat.{ℕ, _≤_, _<_}
+use Prim.Native.Nat.{ℕ, _+_, _≤_, _<_}
 use native.Mathlib.Omega.{arith}
 use mathlib.Core.Path.{_≡_, refl, ap, sym, _∙_, subst}
 use mathlib.Core.Logic.{_↔_}
@@ -24,7 +24,7 @@ use Rattle.definition.specs.PointsKept.Accepted.{accepted-shaped}
 use Rattle.output.specs.Results.{Results, written}
 use Rattle.presolve.specs.declared.Answer.{Answer}
 use Rattle.presolve.specs.Promise.{Working, working, lengths, Outcome, refused, infeasible, presolved, answerIs, outcome, resultsAfter, workingAfter, Promise}
-use Rattle.presolve.specs.Fronts.{entriesFrom, reducedIn, reduced-in}
+use Rattle.presolve.specs.Fronts.{entriesFrom, entries-length, reducedIn, reduced-in}
 
 -- ---- the three answers are three
 abbrev kind : Outcome → ℕ
@@ -114,7 +114,7 @@ module _ {M : Model} {b b′ : Results} {x x′ : Working} {z : Answer} (p : Pro
       let r = infeasible-by table (presolve M) k (sym (p .answer) ∙ e) in
       p .results ∙ ap (λ (o : Option ℕ). resultsAfter o (presolve M) b) (r .0) ∙ ap (λ (a : definition.Answer). resultsAfter none a b) (r .1)
 
-  -- at most 30 waves
+  -- at most 30 waves. Every call's model has the Rust's parameters (refuse, `modelOf`): that premise is refl
   pub waves-infeasible : M .params ≡ params → (k : Counts) → answerIs z ≡ infeasible k → k .passes ≤ 30
   waves-infeasible s k e =
       let r = infeasible-by table (presolve M) k (sym (p .answer) ∙ e) in
@@ -167,6 +167,11 @@ module _ {M : Model} {b b′ : Results} {x x′ : Working} {z : Answer} (p : Pro
     pub rows-dropped : k .rowsDropped ≡ countBelow (length (M .rhs)) (noEntry (entriesFrom b′ n 0))
     unfolding reducedIn
     rows-dropped = kept.dropped-count M model in-slices
+
+    -- rows emitted and rows dropped are the rows given
+    pub rows-conserved : n + k .rowsDropped ≡ length (M .rhs)
+    unfolding reducedIn
+    rows-conserved = ap (λ (l : ℕ). l + k .rowsDropped) (sym (entries-length b′ n 0)) ∙ kept.conserved M model in-slices
 
     -- a variable that is not an integer one keeps its given bounds
     pub bounds-given : (v : ℕ) → isInt M v ≡ false → (at (take (length (M .lower)) (b′ .lower)) v ≡ at (M .lower) v) × (at (take (length (M .lower)) (b′ .upper)) v ≡ at (M .upper) v)

@@ -22,6 +22,11 @@ unfoldable pub entriesFrom : Results → ℕ → ℕ → List Emit
 entriesFrom b zero i = []
 entriesFrom b (suc n) i = entryAt b i ∷ entriesFrom b n (suc i)
 
+pub entries-length : (b : Results) (n i : ℕ) → length (entriesFrom b n i) ≡ n
+unfolding entriesFrom
+entries-length b zero i = refl
+entries-length b (suc n) i = ap suc (entries-length b n (suc i))
+
 -- the terms of the rewritten rows stand in two
 unfoldable pub termsFrom : Results → ℕ → ℕ → List Term
 termsFrom b zero i = []

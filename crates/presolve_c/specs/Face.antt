@@ -15,7 +15,7 @@ use Rattle.emit.specs.Filling.{over}
 use Rattle.output.specs.Results.{Results}
 use Rattle.presolve.specs.Promise.{Working, lengths, Outcome, refused, infeasible, presolved, outcome, resultsAfter, workingAfter}
 
--- ---- the table, where the numbers go to a slice of n entries: that slice is one more result slice, so nine entries or refusal 10, the table's last row
+-- ---- the table, where the numbers go to a slice of n entries: it is lent as the result slices are, so nine entries or refusal 10, the table's last row
 unfoldable pub orElse : Option ℕ → Option ℕ → Option ℕ
 orElse (some k) later = some k
 orElse none later = later

@@ -7,7 +7,7 @@ use refuse::Lent;
 
 mod tell;
 
-// `presolve::presolve`, its answer as a code and numbers. `answer` is one more result slice.
+// `presolve::presolve`, its answer as a code and numbers, which go to `answer`.
 #[no_mangle]
 pub extern "C" fn suedeonyx_presolve(
     obj: &[f64],

@@ -6,3 +6,6 @@ pub mod Small
 pub mod Front
 pub mod Fitting
 pub mod Numbers
+pub mod Refusals
+pub mod Variables
+pub mod TextFits

@@ -33,7 +33,7 @@ pub record Printable (M : Model) (R : Reduced) : Type 0 where
   pub terms : All (λ (t : Term). isNan (t .coeff) ≡ false) (R .terms)
 
 -- ---- lists of which each has a property
-all-at : {A : Type 0} {P : A → Type 0} (d : A) (l : List A) → ((k : ℕ) → k < length l → P (getD l k d)) → All P l
+pub all-at : {A : Type 0} {P : A → Type 0} (d : A) (l : List A) → ((k : ℕ) → k < length l → P (getD l k d)) → All P l
 all-at d [] h = noOne
 all-at d (x ∷ l) h = each (h 0 (omega arith)) (all-at d l (λ k i. h (suc k) (omega arith)))
 
@@ -95,7 +95,7 @@ module _ (M : Model) (L : Lent) (e : refusal M L ≡ none) where
       let b : (v : ℕ) → v < length (M .lower) → (isNan (at (M .lower) v) ≡ false) × (isNan (at (M .upper) v) ≡ false) = λ v h. bounds-number M (a .bounds) v (omega (arith, g .lower)) in
       record { sizes = g .upper ∙ sym (g .lower); lower = λ v h. b v h .0; upper = λ v h. b v h .1; tolerance = tolerance-number M (a .tolerances) }
 
-  spans-of : Spans M
+  pub spans-of : Spans M
   spans-of =
       let a = accepted M L e in
       let g = lengths-agree M (a .lengths) in

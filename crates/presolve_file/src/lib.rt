@@ -12,6 +12,7 @@ ghost use Rattle.model_file.specs.Reading.{slices};
 ghost use Rattle.print_result.specs.Printing.{printed, outcome};
 ghost use Rattle.presolve_file.specs.Whole.{modelText, fileText};
 ghost use Rattle.presolve_file.specs.Front.{Held, frontModel};
+ghost use Rattle.emit.specs.Filling.{over};
 ghost use Rattle.presolve_file.specs.Fitting.{Part, fitting};
 
 // As much of a file as a program has to read: no file that is accepted is as long, and what stands
@@ -179,11 +180,12 @@ fn print_file(file: &[u8], text: &mut [u8]) -> Printed
     }
 }
 
-// Puts what is printed for a file at the start of text, and answers how many bytes that is: none
-// where it does not fit.
+// Puts what is printed for a file at the start of text, and answers how many bytes that is: none where it does not fit. The rest
+// of text stays as it was. TEXT_BYTES are enough for every file (specs/TextFits, `text-fits`).
 pub fn file_text(file: &[u8], text: &mut [u8]) -> usize
     ensures { λ r. ⌜ Part r (now (text .exit)) ⌝ }
     ensures { λ r. ⌜ take r (now (text .exit)) ≡ fitting (length (now (text .entry))) (fileText (now (file .entry))) ⌝ }
+    ensures { λ _. ⌜ now (text .exit) ≡ over (fitting (length (now (text .entry))) (fileText (now (file .entry)))) (now (text .entry)) ⌝ }
 {
     match print_file(file, text) {
         Printed::NoRoom => 0,

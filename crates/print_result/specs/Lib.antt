@@ -3,3 +3,4 @@ pub mod TextLaws
 pub mod Page
 pub mod Printing
 pub mod Cases
+pub mod Lengths

@@ -1,5 +1,5 @@
 -- SAVELSBERGH'S ACTIVITY, of a row that is not rewritten: both sums are the smallest and the largest value of the row over the box, each reached by a point of the box, both magnitude sums are exact
--- there, and no term counts as infinite. For every length to 256, over the working box and the emitted one.
+-- there, and no term counts as infinite. For every length to 256, over the working box and the emitted one, which are the same on such models (Invariant, `Interval`).
 use Prim.Native.Nat.{ℕ, _+_, _≤_, _<_}
 use native.Mathlib.Omega.{arith}
 use mathlib.Core.Path.{_≡_, refl, sym, ap, ap₂, subst, _∙_}
