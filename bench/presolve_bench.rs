@@ -48,18 +48,32 @@ fn now() -> f64 {
     t.seconds as f64 + t.nanoseconds as f64 * 1e-9
 }
 
-// Counts allocations while it is told to.
+// The system's allocator; it counts what is asked of it while it is told to.
 struct Counting;
 
 static COUNTING: AtomicBool = AtomicBool::new(false);
 static COUNT: AtomicU64 = AtomicU64::new(0);
 
-unsafe impl GlobalAlloc for Counting {
-    unsafe fn alloc(&self, l: Layout) -> *mut u8 {
+impl Counting {
+    fn count(&self) {
         if COUNTING.load(Relaxed) {
             COUNT.fetch_add(1, Relaxed);
         }
+    }
+}
+
+unsafe impl GlobalAlloc for Counting {
+    unsafe fn alloc(&self, l: Layout) -> *mut u8 {
+        self.count();
         System.alloc(l)
+    }
+    unsafe fn alloc_zeroed(&self, l: Layout) -> *mut u8 {
+        self.count();
+        System.alloc_zeroed(l)
+    }
+    unsafe fn realloc(&self, p: *mut u8, l: Layout, size: usize) -> *mut u8 {
+        self.count();
+        System.realloc(p, l, size)
     }
     unsafe fn dealloc(&self, p: *mut u8, l: Layout) {
         System.dealloc(p, l)

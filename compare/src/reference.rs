@@ -60,13 +60,17 @@ impl CsVec {
     pub fn new(indices: Vec<usize>, data: Vec<f64>) -> Self {
         CsVec { indices, data }
     }
-    pub fn new_from_unsorted(_dim: usize, vars: Vec<usize>, coeffs: Vec<f64>) -> Result<Self, ()> {
-        let mut terms: Vec<(usize, f64)> = vars.into_iter().zip(coeffs).collect();
+    pub fn new_from_unsorted(_dim: usize, mut indices: Vec<usize>, mut data: Vec<f64>) -> Result<Self, ()> {
+        let mut terms: Vec<(usize, f64)> = indices.iter().copied().zip(data.iter().copied()).collect();
         terms.sort_unstable_by_key(|t| t.0);
         if terms.windows(2).any(|w| w[0].0 == w[1].0) {
             return Err(());
         }
-        Ok(CsVec { indices: terms.iter().map(|t| t.0).collect(), data: terms.iter().map(|t| t.1).collect() })
+        for (i, &(k, a)) in terms.iter().enumerate() {
+            indices[i] = k;
+            data[i] = a;
+        }
+        Ok(CsVec { indices, data })
     }
     pub fn indices(&self) -> &[usize] {
         &self.indices

@@ -38,15 +38,16 @@ binaries-domains M k = record { domain = k .domain }
 pub domain-in : {ds ss : List ℕ} {s : Shape} {f : Floats} {n : Numbers} {v : ℕ} → Ready (Binaries ds ss) s f n → v < s .vars → v < length ds
 domain-in R p = omega (arith, p, R .call .vars, R .call .domains, ap length (R .known .domain))
 
+-- ---- is_binary
+pub is-binary : {ds : List ℕ} {s : Shape} {f : Floats} (v : ℕ) {i b : Bool} {lo hi : Float} → Tells (Domains ds) i (λ M. isIntDomain M v) → lo ≡ getD (f .elo) v nan → hi ≡ getD (f .ehi) v nan → b ≡ binaryAt i lo hi
+    → ReadsF (Domains ds) s f b (λ M w. binary M w v)
+is-binary v ti el eh eb = record { reads = λ M n o k w p c h j. sym (binary-of M w v) ∙ cc (ti .tells M p, elo-is v h el, ehi-is v h eh, eb) }
+
 -- ---- rewrite_term: of the variable v with the coefficient a, in a row with the limits x
-pub term-rewrite : {ds : List ℕ} {s : Shape} {f : Floats} (v : ℕ) (form : defs.Form) (nz : Float) (x : Limits) (act : Activity) (a : Float) {i b : Bool} {lo hi : Float} {z : defs.Rewrite} → Tells (Domains ds) i (λ M. isIntDomain M v)
-    → lo ≡ getD (f .elo) v nan → hi ≡ getD (f .ehi) v nan → b ≡ binaryAt i lo hi → ByParams z (λ M. rewriteAt M b form nz (bare x) act a) → ReadsF (Domains ds) s f z (λ M w. rewriteAt M (binary M w v) form nz (bare x) act a)
-term-rewrite v form nz x act a {i} {b} {lo} {hi} ti el eh eb t =
-    record {
-      reads = λ M n o k w p c h j.
-          let e : binary M w v ≡ b = sym (binary-of M w v) ∙ cc (ti .tells M p, elo-is v h el, ehi-is v h eh, eb) in
-          ap (λ (y : Bool). rewriteAt M y form nz (bare x) act a) e ∙ sym (t .of M (c .params));
-    }
+pub term-rewrite : {ds : List ℕ} {s : Shape} {f : Floats} (v : ℕ) (form : defs.Form) (nz : Float) (x : Limits) (act : Activity) (a : Float) {b : Bool} {z : defs.Rewrite} → ReadsF (Domains ds) s f b (λ M w. binary M w v)
+    → ByParams z (λ M. rewriteAt M b form nz (bare x) act a) → ReadsF (Domains ds) s f z (λ M w. rewriteAt M (binary M w v) form nz (bare x) act a)
+term-rewrite v form nz x act a rb t =
+    record { reads = λ M n o k w p c h j. ap (λ (y : Bool). rewriteAt M y form nz (bare x) act a) (rb .reads M n o k w p c h j) ∙ sym (t .of M (c .params)) }
 
 -- ---- eligible
 module _ (form : defs.Form) (nz : Float) (act : Activity) (r : ℕ) where

@@ -15,6 +15,17 @@ use formulas::Limits;
 use formulas::Rewrite;
 use space::Shape;
 
+// = binary
+fn is_binary(domain: &[u8], w: &[f64], s: Shape, v: usize) -> bool
+    requires { ⌜ (v < s .vars) × (v < length (now domain)) × HoldsF s (now w) ⌝ }
+    ensures { λ z. ⌜ ReadsF (Domains (now (domain .entry))) s (floatsOf s (now (w .entry))) z (λ M u. definition.binary M u v) ⌝ }
+{
+    let int = readers::is_int_domain(domain, v);
+    let lo = space::get_elo(w, s, v);
+    let hi = space::get_ehi(w, s, v);
+    formulas::binary(int, lo, hi)
+}
+
 // = rewriteOf, of the variable v with the coefficient a in a row with the limits x
 pub fn rewrite_term(
     domain: &[u8],
@@ -30,14 +41,12 @@ pub fn rewrite_term(
     requires { ⌜ (v < s .vars) × (v < length (now domain)) × HoldsF s (now w) ⌝ }
     ensures { λ z. ⌜ ReadsF (Domains (now (domain .entry))) s (floatsOf s (now (w .entry))) (rewriteIs z) (λ M u. rewriteAt M (definition.binary M u v) (formIs f) nz (bare x) act a) ⌝ }
 {
-    let int = readers::is_int_domain(domain, v);
-    let lo = space::get_elo(w, s, v);
-    let hi = space::get_ehi(w, s, v);
-    let b = formulas::binary(int, lo, hi);
+    let b = is_binary(domain, w, s, v);
     formulas::rewrite_of(b, f, nz, x, act, a)
 }
 
-// = eligible, over the live terms of row r, whose limits are x
+// = eligible, over the live terms of row r, whose limits are x. It does not call rewrite_term, which so has one caller and is
+// compiled into it.
 pub fn eligible(
     domain: &[u8],
     starts: &[usize],
@@ -62,7 +71,8 @@ pub fn eligible(
     while i < len {
         let v = space::get_var(m, s, a + i);
         let c = space::get_coeff(w, s, a + i);
-        let z = rewrite_term(domain, w, s, f, nz, x, act, v, c);
+        let b = is_binary(domain, w, s, v);
+        let z = formulas::rewrite_of(b, f, nz, x, act, c);
         n += formulas::rewrite_count(z);
         i += 1;
     }

@@ -193,7 +193,23 @@ module _ {P : Model → Type 0} {s : Shape} {f : Floats} {n : Numbers} (upper : 
     pub side-sum : {f′ : Floats} {n′ : Numbers} {y : code.Step} {rest : Float} → z ≡ Sum rest → Tries P s f n f′ n′ y (λ M. fromRest M upper r row side c t (some rest)) → Tries P s f n f′ n′ y (λ M. sideStep M upper r row side c t)
     side-sum u k = tries-as (λ M o j w p d h i. side-is M upper r row side c t z w e g ∙ ap (λ (y : Rest). fromRest M upper r row side c t (restIs y) w) u) k
 
--- ---- implied_term: its two halves, as turns of a loop
+-- ---- quiet: a half that changes nothing, whatever row it is of
+pub record Quiet (ds : List ℕ) (s : Shape) (f : Floats) (side : Side) (upper : Bool) (c : Float) (v : ℕ) (a : Float) : Type 0 where
+  pub quiet : (ss js : List ℕ) (n : Numbers) (r : ℕ) (x : Limits) → Tries (Moves ds ss js) s f n f n Next (λ M. sideStep M upper r (bare x) side c (term v a))
+
+module _ {ds : List ℕ} {s : Shape} {f : Floats} (upper : Bool) (side : Side) (c : Float) (v : ℕ) (a : Float) where
+  pub quiet-skip : isFinite (side .bound) ≡ false → Quiet ds s f side upper c v a
+  quiet-skip e = record { quiet = λ ss js n r x. side-skip upper r (bare x) side c (term v a) e }
+
+  module _ {z : Rest} (e : isFinite (side .bound) ≡ true) (g : restIs z ≡ restOf (side .sum) (side .ninf) c) where
+    pub quiet-open : z ≡ Unbounded → Quiet ds s f side upper c v a
+    quiet-open u = record { quiet = λ ss js n r x. side-open upper r (bare x) side c (term v a) e g u }
+
+    pub quiet-still : {rest q : Float} {b : Bool} → z ≡ Sum rest → q ≡ quotientOf (side .bound) rest a → b ≡ boundsAbove upper a → Held a → Still ds s f side v q b → Quiet ds s f side upper c v a
+    quiet-still {rest} u eq eb ha t =
+        record { quiet = λ ss js n r x. side-sum upper r (bare x) side c (term v a) e g u (rest-still upper r x side c v a rest eq eb ha t) }
+
+-- ---- implied_halves: the two halves, as turns of a loop
 unfoldable pub halfStep : Model → Bool → ℕ → Row → Activity → Float → Float → Term → Work → Step
 halfStep M upper r row act cmin cmax t w = sideStep M upper r row (choose upper (hiOf row act) (loOf row act)) (choose upper cmin cmax) t w
 
@@ -264,10 +280,47 @@ module _ {P : Model → Type 0} {s : Shape} {f₀ f f₁ : Floats} {n₀ n n₁ 
       first-is M r row act cmin cmax t w ∙ ap (λ (u : Bool). doneBefore M u r row act cmin cmax t w >>= λ w1. halfStep M u r row act cmin cmax t w1) (sym e))
       (tries-then b (before-keeps upper r row act cmin cmax t) h)
 
+-- the halves of a term, its parts at both corners taken before
+unfoldable pub halves : Model → ℕ → Row → Activity → Float → Float → Term → Work → Step
+halves M r row act cmin cmax t w = doneBefore M false r row act cmin cmax t w >>= λ w1. halfStep M false r row act cmin cmax t w1
+
+halves-by : (M : Model) (r : ℕ) (row : Row) (act : Activity) (cmin cmax : Float) (t : Term) (w : Work) → halves M r row act cmin cmax t w ≡ (doneBefore M false r row act cmin cmax t w >>= λ w1. halfStep M false r row act cmin cmax t w1)
+unfolding halves
+halves-by M r row act cmin cmax t w = refl
+
+module _ {P : Model → Type 0} {s : Shape} {f₀ f f₁ : Floats} {n₀ n n₁ : Numbers} (r : ℕ) (x : Limits) (act : Activity) (cmin cmax : Float) (t : Term) where
+  pub halves-end : {upper : Bool} {z : code.Step} → upper ≡ false → Tries P s f₀ n₀ f n Next (λ M. doneBefore M upper r (bare x) act cmin cmax t) → Tries P s f n f₁ n₁ z (λ M. halfStep M upper r (bare x) act cmin cmax t)
+      → Tries P s f₀ n₀ f₁ n₁ z (λ M. halves M r (bare x) act cmin cmax t)
+  halves-end {upper} e b h =
+      tries-as
+      (λ M o k w p d y i.
+      halves-by M r (bare x) act cmin cmax t w ∙ ap (λ (u : Bool). doneBefore M u r (bare x) act cmin cmax t w >>= λ w1. halfStep M u r (bare x) act cmin cmax t w1) (sym e))
+      (tries-then b (before-keeps upper r (bare x) act cmin cmax t) h)
+
+  pub halves-stop : (upper : Bool) → Tries P s f₀ n₀ f n Next (λ M. doneBefore M upper r (bare x) act cmin cmax t) → Tries P s f n f₁ n₁ Stop (λ M. halfStep M upper r (bare x) act cmin cmax t)
+      → Tries P s f₀ n₀ f₁ n₁ Stop (λ M. halves M r (bare x) act cmin cmax t)
+  halves-stop true b h =
+      tries-as (λ M o k w p d y i. halves-by M r (bare x) act cmin cmax t w) (tries-stop (λ M. halfStep M false r (bare x) act cmin cmax t) (first-half r (bare x) act cmin cmax t refl b h))
+  halves-stop false b h = halves-end refl b h
+
+module _ {P : Model → Type 0} {s : Shape} {f₀ f f₁ : Floats} {n₀ n n₁ : Numbers} (r : ℕ) (x : Limits) (act : Activity) (cmin cmax : Float) (t : Term) where
+  -- a row with no lower side has one half
+  pub halves-upper : {upper : Bool} {y : Bool} → upper ≡ true → y ≡ isFinite (x .lo) → y ≡ false → Tries P s f₀ n₀ f n Next (λ M. doneBefore M upper r (bare x) act cmin cmax t)
+      → Tries P s f n f₁ n₁ Next (λ M. halfStep M upper r (bare x) act cmin cmax t) → Tries P s f₀ n₀ f₁ n₁ Next (λ M. halves M r (bare x) act cmin cmax t)
+  halves-upper e g i b h = halves-end r x act cmin cmax t refl (first-half r (bare x) act cmin cmax t e b h) (half-none r x act cmin cmax t (sym g ∙ i))
+
+-- neither half changes anything
+quiet-halves : {ds ss js : List ℕ} {s : Shape} {f : Floats} {n : Numbers} (r : ℕ) (x : Limits) (act : Activity) (v : ℕ) (a cmin cmax : Float) {high low : Side} → high ≡ hiOf (bare x) act → low ≡ loOf (bare x) act
+    → Quiet ds s f high true cmin v a → Quiet ds s f low false cmax v a → Tries (Moves ds ss js) s f n f n Next (λ M. halves M r (bare x) act cmin cmax (term v a))
+quiet-halves {ss = ss} {js = js} {n = n} r x act v a cmin cmax eh el p q =
+    halves-end r x act cmin cmax (term v a) refl
+    (first-half r (bare x) act cmin cmax (term v a) refl (before-start r (bare x) act cmin cmax (term v a)) (half-is true r x act cmin cmax (term v a) (eh ∙ sym (yes _ _ refl)) (sym (yes _ _ refl)) (p .quiet ss js n r x)))
+    (half-is false r x act cmin cmax (term v a) (el ∙ sym (no _ _ refl)) (sym (no _ _ refl)) (q .quiet ss js n r x))
+
+-- ---- implied_term: its halves, of the parts that its variable's bounds give
 module _ {f : Floats} (r : ℕ) (x : Limits) (act : Activity) (v : ℕ) (a : Float) {lo hi cmin cmax : Float} (e₁ : lo ≡ getD (f .wlo) v nan) (e₂ : hi ≡ getD (f .whi) v nan)
     (e₃ : cmin ≡ rangeMin a lo hi) (e₄ : cmax ≡ rangeMax a lo hi) where
-  term-is : {M : Model} {n : Numbers} {o : List ℕ} {w : Work} → Shows M f n o w → impliedTerm M r (bare x) act (term v a) w
-      ≡ (doneBefore M false r (bare x) act cmin cmax (term v a) w >>= λ w1. halfStep M false r (bare x) act cmin cmax (term v a) w1)
+  term-is : {M : Model} {n : Numbers} {o : List ℕ} {w : Work} → Shows M f n o w → impliedTerm M r (bare x) act (term v a) w ≡ halves M r (bare x) act cmin cmax (term v a) w
   term-is {M} {n} {o} {w} h =
       let b₁ : rangeMin a (at (w .wlo) v) (at (w .whi) v) ≡ cmin = cc (wlo-is v h e₁, whi-is v h e₂, e₃) in
       let b₂ : rangeMax a (at (w .wlo) v) (at (w .whi) v) ≡ cmax = cc (wlo-is v h e₁, whi-is v h e₂, e₄) in
@@ -275,26 +328,11 @@ module _ {f : Floats} (r : ℕ) (x : Limits) (act : Activity) (v : ℕ) (a : Flo
       ∙ ap (λ (y : Float). both M r (bare x) (hiOf (bare x) act) (loOf (bare x) act) y (rangeMax a (at (w .wlo) v) (at (w .whi) v)) (term v a) w) b₁
       ∙ ap (λ (y : Float). both M r (bare x) (hiOf (bare x) act) (loOf (bare x) act) cmin y (term v a) w) b₂
       ∙ halves-are M r (bare x) act cmin cmax (term v a) w
+      ∙ sym (halves-by M r (bare x) act cmin cmax (term v a) w)
 
-module _ {P : Model → Type 0} {s : Shape} {f₀ f f₁ : Floats} {n₀ n n₁ : Numbers} (r : ℕ) (x : Limits) (act : Activity) (v : ℕ) (a : Float) {lo hi cmin cmax : Float} (e₁ : lo ≡ getD (f₀ .wlo) v nan) (e₂ : hi ≡ getD (f₀ .whi) v nan)
-    (e₃ : cmin ≡ rangeMin a lo hi) (e₄ : cmax ≡ rangeMax a lo hi) where
-  pub term-end : {upper : Bool} {z : code.Step} → upper ≡ false → Tries P s f₀ n₀ f n Next (λ M. doneBefore M upper r (bare x) act cmin cmax (term v a))
-      → Tries P s f n f₁ n₁ z (λ M. halfStep M upper r (bare x) act cmin cmax (term v a)) → Tries P s f₀ n₀ f₁ n₁ z (λ M. impliedTerm M r (bare x) act (term v a))
-  term-end {upper} e b h =
-      tries-as
-      (λ M o k w p d y i.
-      term-is r x act v a e₁ e₂ e₃ e₄ y
-      ∙ ap (λ (u : Bool). doneBefore M u r (bare x) act cmin cmax (term v a) w >>= λ w1. halfStep M u r (bare x) act cmin cmax (term v a) w1) (sym e))
-      (tries-then b (before-keeps upper r (bare x) act cmin cmax (term v a)) h)
+  pub term-halves : {P : Model → Type 0} {s : Shape} {n n₁ : Numbers} {f₁ : Floats} {z : code.Step} → Tries P s f n f₁ n₁ z (λ M. halves M r (bare x) act cmin cmax (term v a)) → Tries P s f n f₁ n₁ z (λ M. impliedTerm M r (bare x) act (term v a))
+  term-halves t = tries-as (λ M o k w p d y i. term-is y) t
 
-  pub term-stop : (upper : Bool) → Tries P s f₀ n₀ f n Next (λ M. doneBefore M upper r (bare x) act cmin cmax (term v a)) → Tries P s f n f₁ n₁ Stop (λ M. halfStep M upper r (bare x) act cmin cmax (term v a))
-      → Tries P s f₀ n₀ f₁ n₁ Stop (λ M. impliedTerm M r (bare x) act (term v a))
-  term-stop true b h =
-      tries-as (λ M o k w p d y i. term-is r x act v a e₁ e₂ e₃ e₄ y) (tries-stop (λ M. halfStep M false r (bare x) act cmin cmax (term v a)) (first-half r (bare x) act cmin cmax (term v a) refl b h))
-  term-stop false b h = term-end refl b h
-
-module _ {P : Model → Type 0} {s : Shape} {f₀ f f₁ : Floats} {n₀ n n₁ : Numbers} (r : ℕ) (x : Limits) (act : Activity) (v : ℕ) (a : Float) {lo hi cmin cmax : Float} (e₁ : lo ≡ getD (f₀ .wlo) v nan) (e₂ : hi ≡ getD (f₀ .whi) v nan)
-    (e₃ : cmin ≡ rangeMin a lo hi) (e₄ : cmax ≡ rangeMax a lo hi) where
-  pub term-upper : {upper : Bool} {y : Bool} → upper ≡ true → y ≡ isFinite (x .lo) → y ≡ false → Tries P s f₀ n₀ f n Next (λ M. doneBefore M upper r (bare x) act cmin cmax (term v a))
-      → Tries P s f n f₁ n₁ Next (λ M. halfStep M upper r (bare x) act cmin cmax (term v a)) → Tries P s f₀ n₀ f₁ n₁ Next (λ M. impliedTerm M r (bare x) act (term v a))
-  term-upper e g i b h = term-end r x act v a e₁ e₂ e₃ e₄ refl (first-half r (bare x) act cmin cmax (term v a) e b h) (half-none r x act cmin cmax (term v a) (sym g ∙ i))
+  pub term-quiet : {ds ss js : List ℕ} {s : Shape} {n : Numbers} {high low : Side} → high ≡ hiOf (bare x) act → low ≡ loOf (bare x) act → Quiet ds s f high true cmin v a → Quiet ds s f low false cmax v a
+      → Tries (Moves ds ss js) s f n f n Next (λ M. impliedTerm M r (bare x) act (term v a))
+  term-quiet eh el p q = term-halves (quiet-halves r x act v a cmin cmax eh el p q)

@@ -14,7 +14,7 @@ ghost use Rattle.formulas.specs.Implied.{hiOf, loOf};
 ghost use Rattle.view.specs.Acts.{Ready, Tries};
 ghost use Rattle.readers.specs.Reading.{rowOf, Alive};
 ghost use Rattle.rows.specs.Knowing.{Moves};
-ghost use Rattle.implied.specs.Sides.{Still, fromRest, sideStep, halfStep};
+ghost use Rattle.implied.specs.Sides.{Still, Quiet, fromRest, sideStep, halfStep, halves};
 use definition::Activity;
 use formulas::Limits;
 use formulas::Rest;
@@ -58,9 +58,6 @@ fn implied_rest(
 {
     let q = formulas::quotient(side, rest, a);
     let above = formulas::bounds_above(upper, a);
-    if still(domain, w, s, side, v, q, above) {
-        return Step::Next;
-    }
     let relax = formulas::relaxation(s.feas, terms, x, side, c, rest, a);
     if above {
         return bounds::tighten_upper(domain, adj, w, m, s, v, q, relax);
@@ -117,6 +114,36 @@ fn implied_side(
         }
     }
     Step::Next
+}
+
+// Whether a half of impliedTerm changes nothing: an infinite side, a rest with no sum, or a bound that leaves its variable as
+// it is.
+fn quiet(
+    domain: &[u8],
+    w: &[f64],
+    s: Shape,
+    side: Side,
+    upper: bool,
+    c: f64,
+    v: usize,
+    a: f64,
+) -> bool
+    requires { ⌜ (v < s .vars) × HoldsF s (now w) × (v < length (now domain)) ⌝ }
+    ensures { λ z. ⌜ (z ≡ true → Quiet (now (domain .entry)) s (floatsOf s (now (w .entry))) side upper c v a) ⌝ }
+{
+    if floats::is_finite(side.bound) {
+        match formulas::rest_of(side, c) {
+            Rest::Sum(rest) => {
+                let q = formulas::quotient(side, rest, a);
+                let above = formulas::bounds_above(upper, a);
+                return still(domain, w, s, side, v, q, above);
+            }
+            Rest::Unbounded => {
+                return true;
+            }
+        }
+    }
+    true
 }
 
 // The side that a half looks at, and the term's part at its corner.
@@ -181,9 +208,9 @@ fn implied_half(
     )
 }
 
-// = impliedTerm: both parts of the term are taken before either side. The sides are a loop's two turns,
-// so that the code of a side stands once and is compiled into its caller; an infinite side has no turn.
-fn implied_term(
+// = halves: a loop's two turns, so that the code of a side stands once and is compiled into its caller; an infinite side has no
+// turn.
+fn implied_halves(
     domain: &[u8],
     starts: &[usize],
     adj: &[usize],
@@ -194,18 +221,16 @@ fn implied_term(
     terms: usize,
     x: Limits,
     act: Activity,
+    cmin: f64,
+    cmax: f64,
     v: usize,
     a: f64,
 ) -> Step
     requires { ⌜ (r < s .rows) × (v < s .vars) × HoldsF s (now w) × HoldsN s (now m) ⌝ }
     requires { ⌜ Ready (Moves (now domain) (now starts) (now adj)) s (floatsOf s (now w)) (numbersOf s (now m)) ⌝ }
     requires { ⌜ terms ≡ getD (now starts) (r + 1) 0 - getD (now starts) r 0 ⌝ }
-    ensures { λ z. ⌜ Tries (Moves (now (domain .entry)) (now (starts .entry)) (now (adj .entry))) s (floatsOf s (now (w .entry))) (numbersOf s (now (m .entry))) (floatsOf s (now (w .exit))) (numbersOf s (now (m .exit))) z (λ M. definition.impliedTerm M r (bare x) act (term v a)) ⌝ }
+    ensures { λ z. ⌜ Tries (Moves (now (domain .entry)) (now (starts .entry)) (now (adj .entry))) s (floatsOf s (now (w .entry))) (numbersOf s (now (m .entry))) (floatsOf s (now (w .exit))) (numbersOf s (now (m .exit))) z (λ M. halves M r (bare x) act cmin cmax (term v a)) ⌝ }
 {
-    let lo = space::get_wlo(w, s, v);
-    let hi = space::get_whi(w, s, v);
-    let cmin = formulas::range_min(a, lo, hi);
-    let cmax = formulas::range_max(a, lo, hi);
     let mut upper = floats::is_finite(x.hi);
     loop {
         match implied_half(
@@ -241,6 +266,56 @@ fn implied_term(
             }
         }
     }
+}
+
+// = impliedTerm: both parts of the term are taken before either side. Mostly neither half changes anything, which is seen
+// before either is gone through.
+fn implied_term(
+    domain: &[u8],
+    starts: &[usize],
+    adj: &[usize],
+    w: &mut [f64],
+    m: &mut [usize],
+    s: Shape,
+    r: usize,
+    terms: usize,
+    x: Limits,
+    act: Activity,
+    v: usize,
+    a: f64,
+) -> Step
+    requires { ⌜ (r < s .rows) × (v < s .vars) × HoldsF s (now w) × HoldsN s (now m) ⌝ }
+    requires { ⌜ Ready (Moves (now domain) (now starts) (now adj)) s (floatsOf s (now w)) (numbersOf s (now m)) ⌝ }
+    requires { ⌜ terms ≡ getD (now starts) (r + 1) 0 - getD (now starts) r 0 ⌝ }
+    ensures { λ z. ⌜ Tries (Moves (now (domain .entry)) (now (starts .entry)) (now (adj .entry))) s (floatsOf s (now (w .entry))) (numbersOf s (now (m .entry))) (floatsOf s (now (w .exit))) (numbersOf s (now (m .exit))) z (λ M. definition.impliedTerm M r (bare x) act (term v a)) ⌝ }
+{
+    let lo = space::get_wlo(w, s, v);
+    let hi = space::get_whi(w, s, v);
+    let cmin = formulas::range_min(a, lo, hi);
+    let cmax = formulas::range_max(a, lo, hi);
+    let high = formulas::hi_of(x, act);
+    if quiet(domain, w, s, high, true, cmin, v, a) {
+        let low = formulas::lo_of(x, act);
+        if quiet(domain, w, s, low, false, cmax, v, a) {
+            return Step::Next;
+        }
+    }
+    implied_halves(
+        domain,
+        starts,
+        adj,
+        w,
+        m,
+        s,
+        r,
+        terms,
+        x,
+        act,
+        cmin,
+        cmax,
+        v,
+        a,
+    )
 }
 
 // = impliedBounds, of the row that stands in the state

@@ -14,6 +14,7 @@ use borrow.Author.Tests.{eqb-true}
 use Rattle.tolerances.specs.Tol.{Term}
 use Rattle.definition.specs.Model.{Model, from, nnz, written, Row, Binding}
 use Rattle.definition.specs.Work.{Work, hasTerm}
+use Rattle.definition.specs.RowsKept.Choices.{and-left}
 use Rattle.space.specs.declared.Shape.{Shape}
 use Rattle.space.specs.Store.{Floats, Numbers}
 use Rattle.view.specs.Call.{Call}
@@ -32,10 +33,6 @@ unfolding hasTerm
 has-all v allIn[] e = absurd (let z : _≡_ {A = ℕ} 0 1 = cc in omega arith)
 has-all v (allIn∷ {t} {ts} h a) e =
     ⊎-elim (λ x. rw (eqb-true (t .var) v x) at h) (λ x. has-all v a x) (or-true (eqb (t .var) v) (hasTerm v ts) e)
-
-and-left : (a b : Bool) → (a && b) ≡ true → a ≡ true
-and-left true b e = refl
-and-left false b e = e
 
 pub nonzero-has : (v : ℕ) (ts : List Term) → hasNonzero v ts ≡ true → hasTerm v ts ≡ true
 unfolding hasNonzero hasTerm

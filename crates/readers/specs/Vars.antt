@@ -1,15 +1,17 @@
 -- A variable's domain, a bound's tolerance and the value of a fixed variable, by the ways through their readers.
 use Prim.Native.Nat.{ℕ}
-use mathlib.Core.Path.{_≡_, ap, sym, _∙_}
-use mathlib.Core.Bool.{Bool, true, false}
+use mathlib.Core.Path.{_≡_, refl, ap, sym, _∙_}
+use mathlib.Core.Bool.{Bool, true, false, _&&_}
 use mathlib.Core.List.{List}
 use lib.ListN.{getD}
 use lib.Ieee.{Float, nan}
 use Rattle.floats.specs.Num.{0f}
 use Rattle.tolerances.specs.Tol.{at, boundTolerance}
+use Rattle.tolerances.specs.Usual.{usual, usual-tolerance}
 use Rattle.definition.specs.Model.{Model, isInt, isIntDomain, isMip}
 use Rattle.definition.specs.Work.{Work, fixed, boundTol}
 use Rattle.definition.specs.Singles.{fixedValue}
+use Rattle.definition.specs.RowsKept.Choices.{and-left, and-right}
 use Rattle.space.specs.declared.Shape.{Shape}
 use Rattle.space.specs.Store.{Floats, Numbers}
 use Rattle.formulas.specs.Fixing.{intDomain, int-domain-of, fixedAt, fixed-of}
@@ -56,6 +58,21 @@ module _ {s : Shape} {f : Floats} (v : ℕ) {upper : Bool} {x z : Float} where
         reads = λ M n o k w p c h i.
             ap (boundTolerance (M .feas)) (no _ _ u ∙ sym (elo-is v h ex)) ∙ ap (λ (t : Float). boundTolerance t x) (sym (c .feas)) ∙ sym ez;
       }
+
+-- bounds of usual size
+module _ (t x y : Float) {lo : Float} {p : Bool} (el : lo ≡ x) (ep : p ≡ usual t lo) where
+  pub usual-both : {hi : Float} {q : Bool} → hi ≡ y → p ≡ true → q ≡ usual t hi → q ≡ (usual t x && usual t y)
+  usual-both eh tp eq = eq ∙ ap (usual t) eh ∙ sym (ap (λ (b : Bool). b && usual t y) (ap (usual t) (sym el) ∙ sym ep ∙ tp))
+
+  pub usual-not : p ≡ false → false ≡ (usual t x && usual t y)
+  usual-not tp = sym (ap (λ (b : Bool). b && usual t y) (ap (usual t) (sym el) ∙ sym ep ∙ tp))
+
+module _ {s : Shape} {f : Floats} (v : ℕ) {z : Bool} (e : z ≡ (usual (s .feas) (getD (f .elo) v nan) && usual (s .feas) (getD (f .ehi) v nan))) (y : z ≡ true) where
+  pub usual-lower : ReadsF Any s f (s .feas) (λ M w. boundTol M w v false)
+  usual-lower = tol-lower v refl refl (sym (usual-tolerance _ _ (and-left _ (usual (s .feas) (getD (f .ehi) v nan)) (sym e ∙ y))))
+
+  pub usual-upper : ReadsF Any s f (s .feas) (λ M w. boundTol M w v true)
+  usual-upper = tol-upper v refl refl (sym (usual-tolerance _ _ (and-right (usual (s .feas) (getD (f .elo) v nan)) _ (sym e ∙ y))))
 
 -- ---- fixed_value
 module _ {f : Floats} (v : ℕ) {lo hi : Float} {b : Bool} (el : lo ≡ getD (f .elo) v nan) (eh : hi ≡ getD (f .ehi) v nan) (eb : b ≡ fixedAt lo hi) where

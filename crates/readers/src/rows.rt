@@ -1,7 +1,11 @@
 // What is read of an alive row: its sides, and its activity.
-ghost use mathlib.Core.Bool.{true};
+ghost use mathlib.Core.Path.{_≡_};
+ghost use mathlib.Core.Bool.{true, _&&_};
 ghost use Prim.Native.Nat.{_+_, _^_, _<_};
+ghost use lib.ListN.{getD};
+ghost use lib.Ieee.{nan};
 ghost use Rattle.tolerances.specs.Tol.{at, term};
+ghost use Rattle.tolerances.specs.Usual.{usual};
 ghost use Rattle.definition.specs.Activities as definition;
 ghost use Rattle.space.specs.Store.{floatsOf, numbersOf, HoldsF, HoldsN};
 ghost use Rattle.view.specs.Acts.{Ready, Reads, Any};
@@ -29,11 +33,27 @@ pub fn limits(w: &[f64], s: Shape, r: usize) -> Limits
     }
 }
 
-// = activityStep, its variable within lo..hi
+// Whether both emitted bounds of v are of usual size.
+fn usual_bounds(w: &[f64], s: Shape, v: usize) -> bool
+    requires { ⌜ (v < s .vars) × HoldsF s (now w) ⌝ }
+    ensures { λ z. ⌜ z ≡ (usual (s .feas) (getD (floatsOf s (now (w .entry)) .elo) v nan) && usual (s .feas) (getD (floatsOf s (now (w .entry)) .ehi) v nan)) ⌝ }
+{
+    let lo = space::get_elo(w, s, v);
+    let hi = space::get_ehi(w, s, v);
+    if tolerances::usual(s.feas, lo) {
+        return tolerances::usual(s.feas, hi);
+    }
+    false
+}
+
+// = activityStep, its variable within lo..hi. Mostly both tolerances are the absolute part alone.
 fn term_within(w: &[f64], s: Shape, v: usize, a: f64, lo: f64, hi: f64, act: Activity) -> Activity
     requires { ⌜ (v < s .vars) × HoldsF s (now w) × (act .ninfL + 1 < 2 ^ 64) × (act .ninfU + 1 < 2 ^ 64) ⌝ }
     ensures { λ z. ⌜ ReadsF Any s (floatsOf s (now (w .entry))) z (λ M u. definition.activityStep M u lo hi (term v a) act) ⌝ }
 {
+    if usual_bounds(w, s, v) {
+        return activity_step(act, a, lo, hi, s.feas, s.feas);
+    }
     let low = bound_tol(w, s, v, false);
     let high = bound_tol(w, s, v, true);
     activity_step(act, a, lo, hi, low, high)
