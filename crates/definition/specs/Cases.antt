@@ -1,8 +1,9 @@
--- 01's "twelve model days": one table of models and answers, and one theorem, by computing the definition.
+-- 01's "twelve model days": one table of models and answers, and one theorem, by computing the definition: each model is accepted, and has its answer.
 use mathlib.Core.Path.{_≡_, refl}
 use Prim.Native.Nat.{ℕ, zero, _+_, _^_}
 use mathlib.Core.Bool.{true, false}
-use mathlib.Core.List.{List, [], _∷_, _++_}
+use mathlib.Core.List.{List, [], _∷_, _++_, List·Memᴰ}
+use mathlib.Core.Option.{Option, none}
 use lib.IntN.{pos}
 use lib.ListN.{length}
 use lib.Ieee.{Float, binary64, neg, add, sub, mul, div, lt, eq, le, round, ofInt, ofBits, toBits, isNan, ne}
@@ -31,6 +32,7 @@ use Rattle.definition.specs.Begin.{crossed, roundedLower, roundedUpper, 
 use Rattle.definition.specs.Rounds.{dualStep, afterWaves, rounds}
 use Rattle.definition.specs.Emit.{insertTerm, sortTerms, noTerms, sameBounds, outRow, outEmpty, outAlive, outOne, outFrom, differs, answerOf}
 use Rattle.definition.specs.Presolve.{finish, start, afterRounding, presolve}
+use Rattle.definition.specs.Refusal.{refusal, shortest, judging}
 
 -- ---- how a case is written
 -- a whole number, a fraction rounded to the nearest float, minus zero, and a float by its bits
@@ -213,14 +215,15 @@ unfoldable pub everything : Unit {0}
 unfolding neg add sub mul div lt eq le round ofInt ofBits toBits isNan ne mags gap prev choose isFinite isInfinite abs maxf minf truncOf awayOf floor ceil nextUp nextDown ofCount double.twoSum double.split double.twoProduct double.from double.plus double.plusProduct double.value double.rounded rowTolerance boundTolerance outside slackMin slackMax trivialVerdict slackMargin slackTol lessTerm impliedFrom tol·implied impliedSlack saysTrue violated zipTerms model·from upto nnz written opOf rhsOf isIntDomain isMip isInt asWritten rhsMag coeffIn orElse coeffOf rangeMin rangeMax has hasTerm fixed dropRow budget boundTol trivial activityStep activityFrom activity markRow adjacent markFrom markVar fix markTightened emitBounds upperInt upperReal tightenUpper lowerInt lowerReal tightenLower swapRemove foldTerm foldStep foldLoop fixedBesidesFrom fixedBesides widened bound? givesBack rewriteRoom relaxWith relaxBinding givenBack holdRewrites foldFixed fixedValue finiteMag emptyRowCheck roomAt widenedAt droppedRoom newLower newUpper singletonInt singletonMisses singletonBounds lowerMeets upperMeets singletonDrop singletonRow hiSide loSide magL magU withinLo withinHi within withinBy sideMag magBoth budgetL budgetU aboveHi belowLo unreachable nearMin nearMax redundant corner forcedTerm allForced forcingAt forcesMin forcesMax fixAll restOf finiteAbs implied impliedTerm impliedBounds idle severalTerms byCount waveRow waveRows wave waves formOf rewrites vacuousRoom actAfter shrinkLe raiseLe vacuousLe shrinkGe lowerGe vacuousGe vacuous sumCoeffs taken rewriteBinding growth bindingSum boundWith rewrittenBound setCoeff queued binary rewriteOf eligible reboundRow rowAfter rewriteStep rewriteLoop spared tightenForm tightenBy tightenRow tightenFrom tightenBinaryCoeffs blockTerms badDec badInc noneBad mayFall mayRise dualVar dualFrom dualFix crossed roundedLower roundedUpper roundVar roundFrom addRow readRow readFrom dualStep afterWaves rounds insertTerm sortTerms noTerms sameBounds outRow outEmpty outAlive outOne outFrom differs answerOf finish start afterRounding presolve
 everything = tt
 
-unfoldable pub presolved : List Case → List Answer
+-- a model's refusal, with the shortest slices that it may lend, and its answer
+unfoldable pub presolved : List Case → List (Option ℕ × Answer)
 presolved [] = []
-presolved (d ∷ ds) = presolve (d .model) ∷ presolved ds
+presolved (d ∷ ds) = (refusal (d .model) (shortest (d .model)), presolve (d .model)) ∷ presolved ds
 
-unfoldable pub answers : List Case → List Answer
+unfoldable pub answers : List Case → List (Option ℕ × Answer)
 answers [] = []
-answers (d ∷ ds) = d .answer ∷ answers ds
+answers (d ∷ ds) = (none, d .answer) ∷ answers ds
 
 pub twelve-cases : presolved cases ≡ answers cases
-unfolding cases presolved answers model objs lowers uppers domains startsFrom allTerms vars coeffs ops sides everything
+unfolding cases presolved answers model objs lowers uppers domains startsFrom allTerms vars coeffs ops sides everything judging
 twelve-cases = refl

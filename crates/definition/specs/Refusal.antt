@@ -5,9 +5,9 @@ use mathlib.Core.List.{List, [], _∷_}
 use mathlib.Core.Option.{Option, none, some}
 use lib.Dec.{eqb, ltb, leb}
 use lib.ListN.{length, getD}
-use lib.Ieee.{Float, eq, le, isNan}
+use lib.Ieee.{Float, eq, le, isNan, ofBits}
 use Rattle.floats.specs.Num.{choose, 0f, ½f, ∞f, -∞f, isFinite}
-use Rattle.tolerances.specs.Tol.{at, validRhs}
+use Rattle.tolerances.specs.Tol.{at, slackMin, slackMax, validRhs}
 use Rattle.definition.specs.Model.{Model, from, upto, nnz, opOf, rhsOf}
 
 -- the lengths of the lent slices: results per variable, per row (emitted rows are five slices: number, mark, right side, both ends of the span) and per term;
@@ -145,6 +145,25 @@ module _ (M : Model) where
       || ltb (L .termIndex) terms || ltb (L .termCoeff) terms
       || ltb (L .floats) (floatsNeeded vars rows terms) || ltb (L .numbers) (numbersNeeded vars rows terms) || ltb (L .adjacency) (adjacencyNeeded vars terms)
 
+  -- the shortest slices that such a call may lend
+  unfoldable pub shortest : Lent
+  shortest =
+      record {
+        lower = vars;
+        upper = vars;
+        emitRow = rows;
+        emitRewritten = rows;
+        emitRhs = rows;
+        emitFrom = rows;
+        emitUpto = rows;
+        kept = rows;
+        termIndex = terms;
+        termCoeff = terms;
+        floats = floatsNeeded vars rows terms;
+        numbers = numbersNeeded vars rows terms;
+        adjacency = adjacencyNeeded vars terms;
+      }
+
 -- the table, in its order
 abbrev pub table : Model → Lent → List (ℕ × Bool)
 table M L =
@@ -159,3 +178,8 @@ earliest (c ∷ cs) =
 
 unfoldable pub refusal : Model → Lent → Option ℕ
 refusal M L = earliest (table M L)
+
+-- to unfold this is to unfold all that its line names: every definition that refusal comes to
+unfoldable pub judging : Unit {0}
+unfolding eq le isNan ofBits choose isFinite slackMin slackMax validRhs from upto nnz opOf rhsOf floatsNeeded numbersNeeded adjacencyNeeded someBelow lengthsDisagree tooLarge startFalls startsWrong indexLarge indexFalls rowUnordered indicesWrong domainWrong cmpWrong codesWrong boundWrong boundsWrong objWrong coeffWrong numbersWrong rhsWrong rhsesWrong toleranceWrong tolerancesWrong tooShort shortest earliest refusal
+judging = tt
