@@ -1,8 +1,9 @@
 -- 01's "twelve model days": one table of models and answers, and one theorem, by computing the definition: each model is accepted, and has its answer.
-use mathlib.Core.Path.{_≡_, refl}
+use mathlib.Core.Path.{_≡_, refl, ap, sym, subst}
+use mathlib.Core.Logic.{⊎-elim}
 use Prim.Native.Nat.{ℕ, zero, _+_, _^_}
 use mathlib.Core.Bool.{true, false}
-use mathlib.Core.List.{List, [], _∷_, _++_, List·Memᴰ}
+use mathlib.Core.List.{List, [], _∷_, _++_, List·Memᴰ, List·Memᴰ·cases-cons, List·Memᴰ·not-nil}
 use mathlib.Core.Option.{Option, none}
 use lib.IntN.{pos}
 use lib.ListN.{length}
@@ -36,16 +37,16 @@ use Rattle.definition.specs.Refusal.{refusal, shortest, judging}
 
 -- ---- how a case is written
 -- a whole number, a fraction rounded to the nearest float, minus zero, and a float by its bits
-abbrev # : ℕ → Float
+abbrev pub # : ℕ → Float
 # n = ofInt binary64 (pos n)
 
-abbrev ratio : ℕ → ℕ → Float
+abbrev pub ratio : ℕ → ℕ → Float
 ratio n d = round binary64 false n d
 
-abbrev -0f : Float
+abbrev pub -0f : Float
 -0f = ofBits binary64 0x8000_0000_0000_0000
 
-abbrev bits : ℕ → Float
+abbrev pub bits : ℕ → Float
 bits n = ofBits binary64 n
 
 pub record Variable : Type 0 where
@@ -59,7 +60,7 @@ integer l h = record { domain = 0; lower = l; upper = h }
 abbrev boolean : Variable
 boolean = record { domain = 2; lower = # 0; upper = # 1 }
 
-abbrev p : Variable
+abbrev pub p : Variable
 p = integer (# 0) (# 10)
 
 abbrev u : Variable
@@ -73,7 +74,7 @@ w = integer (# 0) (# 8)
 
 -- coefficient · variable's number
 infix 80 _·_
-abbrev _·_ : ℕ → ℕ → Term
+abbrev pub _·_ : ℕ → ℕ → Term
 _·_ a k = term k (# a)
 
 pub record Line : Type 0 where
@@ -82,13 +83,13 @@ pub record Line : Type 0 where
   pub rhs : Float
 
 -- terms = b, terms ≤ b, terms ≥ b
-abbrev isEq : List Term → Float → Line
+abbrev pub isEq : List Term → Float → Line
 isEq ts b = record { terms = ts; op = 0; rhs = b }
 
-abbrev isLe : List Term → Float → Line
+abbrev pub isLe : List Term → Float → Line
 isLe ts b = record { terms = ts; op = 1; rhs = b }
 
-abbrev isGe : List Term → Float → Line
+abbrev pub isGe : List Term → Float → Line
 isGe ts b = record { terms = ts; op = 2; rhs = b }
 
 unfoldable pub objs : List Variable → List Float
@@ -131,9 +132,9 @@ unfoldable pub sides : List Line → List Float
 sides [] = []
 sides (x ∷ xs) = x .rhs ∷ sides xs
 
--- the model of these variables and rows: objective 0, feasibility 1e-6, int_tol 1e-9
-unfoldable pub model : ℕ → List Variable → List Line → Model
-model mode xs ls =
+-- the model of these tolerances, mode, variables and rows: objective 0
+unfoldable pub modelWithin : Float → Float → ℕ → List Variable → List Line → Model
+modelWithin feas intTol mode xs ls =
     record {
       obj = objs xs;
       lower = lowers xs;
@@ -145,10 +146,19 @@ model mode xs ls =
       cmp = ops ls;
       rhs = sides ls;
       mode = mode;
-      feas = ratio 1 (10 ^ 6);
-      intTol = ratio 1 (10 ^ 9);
+      feas = feas;
+      intTol = intTol;
       params = params;
     }
+
+-- feasibility 1e-6, int_tol 1e-9
+unfoldable pub model : ℕ → List Variable → List Line → Model
+model = modelWithin (ratio 1 (10 ^ 6)) (ratio 1 (10 ^ 9))
+
+-- to unfold this is to unfold all that its line names: how a model is written
+unfoldable pub writing : Unit {0}
+unfolding objs lowers uppers domains startsFrom allTerms vars coeffs ops sides modelWithin model
+writing = tt
 
 -- an emitted row: its number, right side and span
 abbrev writtenRow : ℕ → Float → ℕ → ℕ → Emit
@@ -215,15 +225,38 @@ unfoldable pub everything : Unit {0}
 unfolding neg add sub mul div lt eq le round ofInt ofBits toBits isNan ne mags gap prev choose isFinite isInfinite abs maxf minf truncOf awayOf floor ceil nextUp nextDown ofCount double.twoSum double.split double.twoProduct double.from double.plus double.plusProduct double.value double.rounded rowTolerance boundTolerance outside slackMin slackMax trivialVerdict slackMargin slackTol lessTerm impliedFrom tol·implied impliedSlack saysTrue violated zipTerms model·from upto nnz written opOf rhsOf isIntDomain isMip isInt asWritten rhsMag coeffIn orElse coeffOf rangeMin rangeMax has hasTerm fixed dropRow budget boundTol trivial activityStep activityFrom activity markRow adjacent markFrom markVar fix markTightened emitBounds upperInt upperReal tightenUpper lowerInt lowerReal tightenLower swapRemove foldTerm foldStep foldLoop fixedBesidesFrom fixedBesides widened bound? givesBack rewriteRoom relaxWith relaxBinding givenBack holdRewrites foldFixed fixedValue finiteMag emptyRowCheck roomAt widenedAt droppedRoom newLower newUpper singletonInt singletonMisses singletonBounds lowerMeets upperMeets singletonDrop singletonRow hiSide loSide magL magU withinLo withinHi within withinBy sideMag magBoth budgetL budgetU aboveHi belowLo unreachable nearMin nearMax redundant corner forcedTerm allForced forcingAt forcesMin forcesMax fixAll restOf finiteAbs implied impliedTerm impliedBounds idle severalTerms byCount waveRow waveRows wave waves formOf rewrites vacuousRoom actAfter shrinkLe raiseLe vacuousLe shrinkGe lowerGe vacuousGe vacuous sumCoeffs taken rewriteBinding growth bindingSum boundWith rewrittenBound setCoeff queued binary rewriteOf eligible reboundRow rowAfter rewriteStep rewriteLoop spared tightenForm tightenBy tightenRow tightenFrom tightenBinaryCoeffs blockTerms badDec badInc noneBad mayFall mayRise dualVar dualFrom dualFix crossed roundedLower roundedUpper roundVar roundFrom addRow readRow readFrom dualStep afterWaves rounds insertTerm sortTerms noTerms sameBounds outRow outEmpty outAlive outOne outFrom differs answerOf finish start afterRounding presolve
 everything = tt
 
--- a model's refusal, with the shortest slices that it may lend, and its answer
-unfoldable pub presolved : List Case → List (Option ℕ × Answer)
+-- a call's refusal, or none, and the definition's answer
+abbrev pub Verdict : Type 0
+Verdict = Option ℕ × Answer
+
+-- of calls that lend the shortest slices
+unfoldable pub presolved : List Case → List Verdict
 presolved [] = []
 presolved (d ∷ ds) = (refusal (d .model) (shortest (d .model)), presolve (d .model)) ∷ presolved ds
 
-unfoldable pub answers : List Case → List (Option ℕ × Answer)
+-- the table's: accepted, with its answer
+unfoldable pub answers : List Case → List Verdict
 answers [] = []
 answers (d ∷ ds) = (none, d .answer) ∷ answers ds
 
 pub twelve-cases : presolved cases ≡ answers cases
-unfolding cases presolved answers model objs lowers uppers domains startsFrom allTerms vars coeffs ops sides everything judging
+unfolding cases presolved answers writing everything judging
 twelve-cases = refl
+
+-- the same, for each case of the table
+abbrev Right : Case → Type 0
+Right c = (refusal (c .model) (shortest (c .model)) ≡ none) × (presolve (c .model) ≡ c .answer)
+
+each : (cs : List Case) → presolved cs ≡ answers cs → (c : Case) → List·Memᴰ c cs → Right c
+unfolding presolved answers
+each [] e c m = absurd (List·Memᴰ·not-nil m)
+each (d ∷ ds) e c m =
+    let h : _≡_ {A = Verdict} (refusal (d .model) (shortest (d .model)), presolve (d .model)) (none, d .answer) = cc in
+    let t : presolved ds ≡ answers ds = cc in
+    ⊎-elim (λ q. subst Right (sym q) (ap (λ (z : Verdict). z .0) h, ap (λ (z : Verdict). z .1) h)) (λ i. each ds t c i) (List·Memᴰ·cases-cons m)
+
+pub case-accepted : {c : Case} → List·Memᴰ c cases → refusal (c .model) (shortest (c .model)) ≡ none
+case-accepted {c} m = each cases twelve-cases c m .0
+
+pub case-answered : {c : Case} → List·Memᴰ c cases → presolve (c .model) ≡ c .answer
+case-answered {c} m = each cases twelve-cases c m .1

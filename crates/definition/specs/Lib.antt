@@ -1,4 +1,4 @@
--- The presolver as a definition, file by file as the Rust; the refusals; the twelve worked cases.
+-- The presolver as a definition, file by file as the Rust; the refusals; the twelve worked cases; the edges of what is accepted.
 pub mod Params
 pub mod Model
 pub mod Work
@@ -21,5 +21,6 @@ pub mod Emit
 pub mod Presolve
 pub mod Refusal
 pub mod Cases
+pub mod Edges
 pub mod RowsKept
 pub mod PointsKept

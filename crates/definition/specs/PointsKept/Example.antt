@@ -18,7 +18,7 @@ use Rattle.definition.specs.Model.{Answer, infeasible, done, Model, from
 use Rattle.definition.specs.Presolve.{presolve}
 use Rattle.definition.specs.PointsKept.Statements.{PureInteger, Exact}
 use Rattle.definition.specs.PointsKept.Theorem.{points-kept}
-use Rattle.definition.specs.Cases.{Case, cases, model, objs, lowers, uppers, domains, startsFrom, allTerms, vars, coeffs, ops, sides, everything}
+use Rattle.definition.specs.Cases.{Case, cases, writing, everything}
 
 abbrev number : ℕ → Float
 number n = ofInt binary64 (pos n)
@@ -100,5 +100,5 @@ firstModel [] = none
 firstModel (c ∷ cs) = some (c .model)
 
 pub twice-is-first : firstModel cases ≡ some twice
-unfolding twice firstModel cases model objs lowers uppers domains startsFrom allTerms vars coeffs ops sides
+unfolding twice firstModel cases writing
 twice-is-first = refl
