@@ -1,15 +1,20 @@
--- THE EDGES OF WHAT IS ACCEPTED, as 01 names them: one table of calls just inside and just outside, and one theorem, by computing. Above it, that slices longer
--- than the shortest are accepted too.
-use Prim.Native.Nat.{ℕ}
-use mathlib.Core.Path.{_≡_, refl}
-use mathlib.Core.Bool.{Bool, true, false}
+-- THE EDGES OF WHAT IS ACCEPTED, as 01 names them: one table of calls just inside and just outside, and one theorem, by computing; how many variables are too many;
+-- and that longer slices are accepted where shorter ones are.
+use Prim.Native.Nat.{ℕ, zero, suc, _<_}
+use native.Mathlib.Omega.{arith}
+use mathlib.Core.Path.{_≡_, refl, _∙_}
+use mathlib.Core.Bool.{Bool, true, false, _||_, or-false}
 use mathlib.Core.List.{List, [], _∷_, _++_}
 use mathlib.Core.Option.{Option, none, some}
-use lib.Ieee.{Float, binary64, round, ofInt, nan}
-use Rattle.floats.specs.Num.{choose, ½f, ∞f, -∞f}
+use lib.Dec.{ltb, ltb→lt}
+use lib.ListN.{length, replicate, length-replicate, getD-replicate}
+use lib.Ieee.{Float, eq, isNan, ofBits, round, ofInt, nan}
+use Rattle.floats.specs.Num.{choose, 0f, ½f, ∞f, -∞f, isFinite}
+use Rattle.definition.specs.Params.{params}
 use Rattle.definition.specs.Model.{Model}
 use Rattle.definition.specs.Cases.{#, ratio, -0f, bits, p, Line, _·_, isEq, isLe, isGe, modelWithin, model, writing}
-use Rattle.definition.specs.Refusal.{Lent, lengthsDisagree, tooLarge, startsWrong, indicesWrong, codesWrong, boundsWrong, numbersWrong, rhsesWrong, tolerancesWrong, tooShort, shortest, earliest, refusal, judging}
+use Rattle.definition.specs.Refusal.{Lent, MAX-VARS, floatsNeeded, numbersNeeded, adjacencyNeeded, someBelow, vars, rows, terms, lengthsDisagree, tooLarge, startsWrong, indicesWrong, domainWrong, codesWrong, boundWrong, boundsWrong, objWrong, numbersWrong, rhsesWrong, tolerancesWrong, tooShort, shortest, earliest, refusal, judging}
+use Rattle.definition.specs.RowsKept.Lists.{equal, bool-false}
 
 -- ---- lent slices matter to refusal 10 alone
 last-alone : (cs : List (ℕ × Bool)) (k : ℕ) (c d : Bool) → earliest (cs ++ ((k, c) ∷ [])) ≡ none → d ≡ false → earliest (cs ++ ((k, d) ∷ [])) ≡ none
@@ -25,6 +30,18 @@ longer-accepted M K L =
     last-alone
     ((1, lengthsDisagree M) ∷ (2, tooLarge M) ∷ (3, startsWrong M) ∷ (4, indicesWrong M) ∷ (5, codesWrong M) ∷ (6, boundsWrong M) ∷ (7, numbersWrong M) ∷ (8, rhsesWrong M) ∷ (9, tolerancesWrong M) ∷ [])
     10 (tooShort M K) (tooShort M L)
+
+ltb-same : (n : ℕ) → ltb n n ≡ false
+ltb-same n = bool-false (ltb n n) (λ t. let l = ltb→lt n n t in omega arith)
+
+-- the shortest slices are long enough
+pub shortest-enough : (M : Model) → tooShort M (shortest M) ≡ false
+unfolding tooShort shortest
+shortest-enough M =
+    let v = vars M in
+    let r = rows M in
+    let t = terms M in
+    rw (ltb-same v, ltb-same r, ltb-same t, ltb-same (floatsNeeded v r t), ltb-same (numbersNeeded v r t), ltb-same (adjacencyNeeded v t)) refl
 
 -- ---- how a call is written
 pub record Call : Type 0 where
@@ -44,13 +61,13 @@ within feas intTol = modelWithin feas intTol 1 (p ∷ []) (isLe (2 · 0 ∷ []) 
 abbrev row : Line → Model
 row l = model 1 (p ∷ []) (l ∷ [])
 
--- 2p ≤ 7 with slices of these lengths: one variable, one row, one term
-abbrev lending : (l u r m b f e k i c x n a : ℕ) → Call
-lending l u r m b f e k i c x n a =
+-- 2p ≤ 7, one variable, one row and one term, with slices of these lengths, in the order of Lent
+abbrev lending : (l u r m b f e k i c x n a : ℕ) → Option ℕ → Call
+lending l u r m b f e k i c x n a z =
     record {
       model = row (isLe (2 · 0 ∷ []) (# 7));
       lent = record { lower = l; upper = u; emitRow = r; emitRewritten = m; emitRhs = b; emitFrom = f; emitUpto = e; kept = k; termIndex = i; termCoeff = c; floats = x; numbers = n; adjacency = a };
-      refusal = some 10;
+      refusal = z;
     }
 
 -- ---- the table
@@ -76,20 +93,21 @@ edges =
     ∷ of (model 1 [] (isLe [] (# 0) ∷ [])) none
     ∷ of (model 1 (p ∷ []) []) none
     ∷ of (model 1 [] []) none
-    -- each slice one short
-    ∷ lending 0 1 1 1 1 1 1 1 1 1 13 21 3
-    ∷ lending 1 0 1 1 1 1 1 1 1 1 13 21 3
-    ∷ lending 1 1 0 1 1 1 1 1 1 1 13 21 3
-    ∷ lending 1 1 1 0 1 1 1 1 1 1 13 21 3
-    ∷ lending 1 1 1 1 0 1 1 1 1 1 13 21 3
-    ∷ lending 1 1 1 1 1 0 1 1 1 1 13 21 3
-    ∷ lending 1 1 1 1 1 1 0 1 1 1 13 21 3
-    ∷ lending 1 1 1 1 1 1 1 0 1 1 13 21 3
-    ∷ lending 1 1 1 1 1 1 1 1 0 1 13 21 3
-    ∷ lending 1 1 1 1 1 1 1 1 1 0 13 21 3
-    ∷ lending 1 1 1 1 1 1 1 1 1 1 12 21 3
-    ∷ lending 1 1 1 1 1 1 1 1 1 1 13 20 3
-    ∷ lending 1 1 1 1 1 1 1 1 1 1 13 21 2
+    -- the shortest slices, and each of them one short
+    ∷ lending 1 1 1 1 1 1 1 1 1 1 13 21 3 none
+    ∷ lending 0 1 1 1 1 1 1 1 1 1 13 21 3 (some 10)
+    ∷ lending 1 0 1 1 1 1 1 1 1 1 13 21 3 (some 10)
+    ∷ lending 1 1 0 1 1 1 1 1 1 1 13 21 3 (some 10)
+    ∷ lending 1 1 1 0 1 1 1 1 1 1 13 21 3 (some 10)
+    ∷ lending 1 1 1 1 0 1 1 1 1 1 13 21 3 (some 10)
+    ∷ lending 1 1 1 1 1 0 1 1 1 1 13 21 3 (some 10)
+    ∷ lending 1 1 1 1 1 1 0 1 1 1 13 21 3 (some 10)
+    ∷ lending 1 1 1 1 1 1 1 0 1 1 13 21 3 (some 10)
+    ∷ lending 1 1 1 1 1 1 1 1 0 1 13 21 3 (some 10)
+    ∷ lending 1 1 1 1 1 1 1 1 1 0 13 21 3 (some 10)
+    ∷ lending 1 1 1 1 1 1 1 1 1 1 12 21 3 (some 10)
+    ∷ lending 1 1 1 1 1 1 1 1 1 1 13 20 3 (some 10)
+    ∷ lending 1 1 1 1 1 1 1 1 1 1 13 21 2 (some 10)
     ∷ []
 
 unfoldable pub refusals : List Call → List (Option ℕ)
@@ -103,3 +121,60 @@ expected (c ∷ cs) = c .refusal ∷ expected cs
 pub edges-judged : refusals edges ≡ expected edges
 unfolding edges refusals expected round ofInt writing judging
 edges-judged = refl
+
+-- ---- n variables, from 0 to 0, and no row: up to 4,096 they are accepted, and more are refused with 2
+unfoldable pub wide : ℕ → Model
+wide n =
+    record {
+      obj = replicate n 0f;
+      lower = replicate n 0f;
+      upper = replicate n 0f;
+      domain = replicate n 0;
+      starts = 0 ∷ [];
+      index = [];
+      coeff = [];
+      cmp = [];
+      rhs = [];
+      mode = 1;
+      feas = 0f;
+      intTol = 0f;
+      params = params;
+    }
+
+none-below : (t : ℕ → Bool) (n : ℕ) → ((k : ℕ) → k < n → t k ≡ false) → someBelow t n ≡ false
+unfolding someBelow
+none-below t zero h = refl
+none-below t (suc n) h = rw (none-below t n (λ k l. h k (omega arith)), h n (omega arith)) refl
+
+module _ (n : ℕ) where
+  size : {A : Type 0} (a : A) → length (replicate n a) ≡ n
+  size a = length-replicate n a
+
+  agree : lengthsDisagree (wide n) ≡ false
+  unfolding wide lengthsDisagree
+  agree = rw (size 0f, size {A = ℕ} 0, equal n) refl
+
+  codes : codesWrong (wide n) ≡ false
+  unfolding wide codesWrong domainWrong someBelow
+  codes = rw (none-below (domainWrong (wide n)) (length (replicate n 0f)) (λ k l. rw (getD-replicate {A = ℕ} n k 0 0 (omega (arith, l, size 0f))) refl)) refl
+
+  bounds : boundsWrong (wide n) ≡ false
+  unfolding wide boundsWrong boundWrong isNan eq ofBits
+  bounds = none-below (boundWrong (wide n)) (length (replicate n 0f)) (λ k l. rw (getD-replicate n k 0f nan (omega (arith, l, size 0f))) refl)
+
+  numbers : numbersWrong (wide n) ≡ false
+  unfolding wide numbersWrong objWrong someBelow isFinite ofBits
+  numbers = rw (none-below (objWrong (wide n)) (length (replicate n 0f)) (λ k l. rw (getD-replicate n k 0f nan (omega (arith, l, size 0f))) refl)) refl
+
+  large : tooLarge (wide n) ≡ ltb MAX-VARS n
+  unfolding wide tooLarge
+  large = rw (size 0f) (or-false (ltb MAX-VARS n || false) ∙ or-false (ltb MAX-VARS n))
+
+  -- what looks at no variable
+  others : (startsWrong (wide n) ≡ false) × (indicesWrong (wide n) ≡ false) × (rhsesWrong (wide n) ≡ false) × (tolerancesWrong (wide n) ≡ false)
+  unfolding wide judging
+  others = (refl, refl, refl, refl)
+
+  pub wide-judged : refusal (wide n) (shortest (wide n)) ≡ choose (ltb MAX-VARS n) (some 2) none
+  unfolding refusal earliest choose
+  wide-judged = rw (agree, large, others .0, others .1, codes, bounds, numbers, others .2, others .3, shortest-enough (wide n)) refl

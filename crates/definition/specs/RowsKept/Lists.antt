@@ -15,7 +15,7 @@ use Rattle.definition.specs.RowsKept.Choices.{chosen, left}
 bool-true : (b : Bool) → T b → b ≡ true
 bool-true true t = refl
 
-bool-false : (b : Bool) → (T b → ⊥) → b ≡ false
+pub bool-false : (b : Bool) → (T b → ⊥) → b ≡ false
 bool-false true f = absurd (f tt)
 bool-false false f = refl
 
