@@ -1,21 +1,21 @@
--- THE NUMBERS OF THE REFUSALS: the reader's go up to 14, the table's up to 10.
+-- THE NUMBERS OF THE REFUSALS: the reader's go from 11 to 14, the table's up to 10, and up to 9 where no lent slice is too short.
 use Prim.Native.Nat.{ℕ, zero, suc, _≤_}
 use native.Mathlib.Omega.{arith}
-use mathlib.Core.Path.{_≡_}
-use mathlib.Core.Bool.{Bool, true, false}
+use mathlib.Core.Path.{_≡_, refl, sym, _∙_}
+use mathlib.Core.Bool.{Bool, true, false, true≢false}
 use mathlib.Core.List.{List, [], _∷_}
-use mathlib.Core.Option.{Option, some}
+use mathlib.Core.Option.{Option, some, Option·none-ne-some, Option·some-injective}
 use lib.Ieee.{Float}
+use Rattle.floats.specs.Num.{choose}
 use Rattle.definition.specs.Model.{Model}
 use Rattle.definition.specs.Refusal.{Lent, earliest}
 use Rattle.definition.specs.Refusal as call
-use Rattle.definition.specs.RowsKept.Choices.{both}
 use Rattle.definition.specs.RowsKept.Statements.{All, noOne, each}
 use Rattle.model_file.specs.Format.{Got, refused, got, Parser, andThen, refuse, many, byte, number, float, optional, count, code, rules, settings, values, variable, side, head, term, row, rows, end, whole, refusal, decoded, decode}
 
 -- ---- the reader: each parser gets something, or refuses by a number that the format has
 pub data Numbered {A : Type 0} : Got A → Type 0 where
-  refuses : {n : ℕ} → n ≤ 14 → Numbered (refused n)
+  refuses : {n : ℕ} → (11 ≤ n) × (n ≤ 14) → Numbered (refused n)
   gets : {a : A} {s : List ℕ} → Numbered (got a s)
 
 abbrev Numbers : {A : Type 0} → Parser A → Type 0
@@ -26,7 +26,7 @@ unfolding andThen
 and-then (refuses h) k = refuses h
 and-then (gets {a} {s}) k = k a s
 
-refuse-numbers : (n : ℕ) (b : Bool) → n ≤ 14 → Numbers (refuse n b)
+refuse-numbers : (n : ℕ) (b : Bool) → (11 ≤ n) × (n ≤ 14) → Numbers (refuse n b)
 unfolding refuse
 refuse-numbers n true h s = refuses h
 refuse-numbers n false h s = gets
@@ -105,24 +105,36 @@ whole-numbers s =
     and-then (settings-numbers s) (λ h s. and-then (many-numbers variable (h .vars) variable-numbers s)
     (λ vs s. and-then (rows-numbers (h .rows) 0 s) (λ rs s. and-then (end-numbers s) (λ u s. gets))))
 
-decoded-numbers : {n : ℕ} (g : Got _) → Numbered g → decoded g ≡ refusal n → n ≤ 14
+decoded-numbers : {n : ℕ} (g : Got _) → Numbered g → decoded g ≡ refusal n → (11 ≤ n) × (n ≤ 14)
 unfolding decoded
 decoded-numbers {n} (refused m) (refuses h) e = let z : m ≡ n = cc in omega arith
 decoded-numbers (got f s) h e = absurd (let z : _≡_ {A = ℕ} 0 1 = cc in omega arith)
 
-pub reader-numbers : (s : List ℕ) {n : ℕ} → decode s ≡ refusal n → n ≤ 14
+pub reader-numbers : (s : List ℕ) {n : ℕ} → decode s ≡ refusal n → (11 ≤ n) × (n ≤ 14)
 unfolding decode
 reader-numbers s e = decoded-numbers (whole s) (whole-numbers s) e
 
--- ---- the table
-earliest-numbers : {cs : List (ℕ × Bool)} {n : ℕ} → All (λ (c : ℕ × Bool). c .0 ≤ 10) cs → earliest cs ≡ some n → n ≤ 10
+-- ---- the table: where each case that applies has a number up to k, so has the earliest
+first-or : (k m : ℕ) {n : ℕ} (b : Bool) {later : Option ℕ} → (b ≡ true → m ≤ k) → (later ≡ some n → n ≤ k) → choose b (some m) later ≡ some n → n ≤ k
+unfolding choose
+first-or k m {n} true h l e = omega (arith, Option·some-injective m n e, h refl)
+first-or k m false h l e = l e
+
+earliest-numbers : (k : ℕ) {cs : List (ℕ × Bool)} {n : ℕ} → All (λ (c : ℕ × Bool). c .1 ≡ true → c .0 ≤ k) cs → earliest cs ≡ some n → n ≤ k
 unfolding earliest
-earliest-numbers noOne e = absurd (let z : _≡_ {A = ℕ} 0 1 = cc in omega arith)
-earliest-numbers {n = n} (each {x = c} h k) e = both (λ (o : Option ℕ). o ≡ some n → n ≤ 10) (c .1) (λ q. let z : c .0 ≡ n = cc in omega arith) (earliest-numbers k) e
+earliest-numbers k {n = n} noOne e = absurd (Option·none-ne-some n e)
+earliest-numbers k (each {x = c} h l) e = first-or k (c .0) (c .1) h (earliest-numbers k l) e
+
+table-up-to : (M : Model) (L : Lent) (k : ℕ) {n : ℕ} → 9 ≤ k → (call.tooShort M L ≡ true → 10 ≤ k) → call.refusal M L ≡ some n → n ≤ k
+unfolding call.refusal
+table-up-to M L k h short e =
+    earliest-numbers k
+    (each (λ q. omega arith) (each (λ q. omega arith) (each (λ q. omega arith) (each (λ q. omega arith) (each (λ q. omega arith)
+    (each (λ q. omega arith) (each (λ q. omega arith) (each (λ q. omega arith) (each (λ q. omega arith) (each short noOne))))))))))
+    e
 
 pub table-numbers : (M : Model) (L : Lent) {n : ℕ} → call.refusal M L ≡ some n → n ≤ 10
-unfolding call.refusal
-table-numbers M L e =
-    earliest-numbers
-    (each (omega arith) (each (omega arith) (each (omega arith) (each (omega arith) (each (omega arith) (each (omega arith) (each (omega arith) (each (omega arith) (each (omega arith) (each (omega arith) noOne))))))))))
-    e
+table-numbers M L e = table-up-to M L 10 (omega arith) (λ q. omega arith) e
+
+pub long-numbers : (M : Model) (L : Lent) {n : ℕ} → call.tooShort M L ≡ false → call.refusal M L ≡ some n → n ≤ 9
+long-numbers M L l e = table-up-to M L 9 (omega arith) (λ q. absurd (true≢false (sym q ∙ l))) e

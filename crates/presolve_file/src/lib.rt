@@ -24,7 +24,7 @@ pub const FILE_BYTES: usize = 9750;
 pub const TEXT_BYTES: usize = 32768;
 
 // Presolves a model and prints the answer. The space is enough for 128 variables, 128 rows and 512
-// terms (docs/WORKSPACE.md).
+// terms (docs/WORKSPACE.md), and so for every file that is read (specs/Enough, `space-enough`).
 fn presolve_model(
     obj: &[f64],
     lower: &[f64],
