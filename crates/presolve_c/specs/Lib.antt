@@ -2,3 +2,4 @@
 pub mod Face
 pub mod Codes
 pub mod Steps
+pub mod Demands
