@@ -20,8 +20,7 @@ use Rattle.space.specs.Store.{Floats, Numbers}
 use Rattle.view.specs.Call.{Call}
 use Rattle.view.specs.Shows.{isOne, Shows, Counted, tallyOf}
 use Rattle.view.specs.Inv.{Inv}
-use Rattle.view.specs.Known.{Written, Known}
-use Rattle.view.specs.Acts.{Ready}
+use Rattle.view.specs.Known.{Written}
 use Rattle.view.specs.Lists.{yes, no}
 use Rattle.view.specs.Adjacency.{Adjacency}
 use Rattle.folds.specs.Written.{Given}
@@ -175,19 +174,3 @@ pub record Started (M : Model) (f : Floats) (n : Numbers) (x : Answer) : Type 0 
 
 pub started-is : {M : Model} {f : Floats} {n : Numbers} {x : Answer} → Begun M f n Next x → Started M f n x
 started-is (begins {w} h i) = record { work = w; is = refl; shows = h; inv = i }
-
-pub begin-ready : {ls hs : List Float} {ds : List ℕ} {tol : Float} {ss is : List ℕ} {cs : List Float} {os : List ℕ} {bs : List Float} {s : Shape} {f : Floats} {n : Numbers} {adj : List ℕ}
-    → Given (Handed ls hs ds tol ss is cs os bs) s → Begins (Handed ls hs ds tol ss is cs os bs) s f n adj Next → Ready (Known ds ss is cs os bs adj) s f n
-begin-ready {n = n} G b =
-    let g = started-is (b .does (G .model) (G .known) (G .call)) in
-    let w = G .known .written in
-    record {
-      model = G .model;
-      other = n .wave;
-      left = 0;
-      work = g .work;
-      known = record { domain = G .known .limits .domain; starts = w .starts; index = w .index; coeff = w .coeff; cmp = w .cmp; rhs = w .rhs; adj = b .adjacency refl (G .model) (G .known) (G .call) };
-      call = G .call;
-      shows = g .shows;
-      inv = g .inv;
-    }

@@ -24,8 +24,8 @@ use Rattle.view.specs.Call.{Call}
 use Rattle.view.specs.Shows.{Shows, StepShown}
 use Rattle.view.specs.Inv.{Inv}
 use Rattle.view.specs.Lists.{yes, no, either}
-use Rattle.view.specs.Acts.{Ready, Acts, Tries, Reads, ActsN, Keeps, acts-then, of-numbers}
-use Rattle.view.specs.Steps.{InvStep, stops, goes, KeepsStep, tries-under}
+use Rattle.view.specs.Acts.{Ready, Acts, Tries, Reads, ActsN, acts-then, of-numbers}
+use Rattle.view.specs.Steps.{InvStep, stops, goes, tries-under}
 use Rattle.view.specs.Adjacency.{Adj}
 use Rattle.view.specs.Marks.{inv-mark-var}
 use Rattle.view.specs.Known.{Bounding, bounding-adj}
@@ -342,14 +342,3 @@ module _ {M : Model} {k : ℕ} (v : ℕ) (w : Work) (i : Inv M k w) where
   inv-lower q relax = either (InvStep M k) _ (λ e. either (InvStep M k) _ (λ e′. inv-lower-int _) (λ e′. inv-lower-real _)) (λ e. goes i)
 
 module _ {P : Model → Type 0} {s : Shape} (v : ℕ) where
-  pub fix-keeps : (x : Float) → Keeps P s (λ M. fix M v x)
-  fix-keeps x = record { keeps = λ M k w p c i. inv-fix v w i x }
-
-  pub emit-keeps : (lo hi : Float) → Keeps P s (λ M. emitBounds M v lo hi)
-  emit-keeps lo hi = record { keeps = λ M k w p c i. inv-emit v w i lo hi }
-
-  pub upper-keeps : (q relax : Float) → KeepsStep P s (λ M. tightenUpper M v q relax)
-  upper-keeps q relax = record { keeps = λ M k w p c i. inv-upper v w i q relax }
-
-  pub lower-keeps : (q relax : Float) → KeepsStep P s (λ M. tightenLower M v q relax)
-  lower-keeps q relax = record { keeps = λ M k w p c i. inv-lower v w i q relax }

@@ -11,7 +11,7 @@ use Rattle.definition.specs.Model.{Model, written, opOf, rhsOf, Binding,
 use Rattle.definition.specs.Work.{Work, has}
 use Rattle.definition.specs.Folds.{fixedBesides, rewriteRoom}
 
--- the binaries' coefficients as rewritten, summed
+-- the binaries' coefficients as rewritten, summed; `rewritten_coeff` is coeffOf. The Rust's `sum` starts at minus zero, which is not seen
 unfoldable pub sumCoeffs : Row → Float → List ℕ → Float
 sumCoeffs row s [] = s
 sumCoeffs row s (k ∷ ks) = sumCoeffs row (s ⊕ abs (coeffOf row k)) ks
@@ -40,11 +40,13 @@ module _ (M : Model) where
   unfoldable pub growth : Float → Row → Binding → Float
   growth b row new = new .kept ⊖ taken (rhsMag row b) (row .binding) .kept
 
-  -- `rewritten_bound`: the bound as written, less each binary's coefficient as written, plus as rewritten, relaxed by what is kept, rounded outward
+  -- `rewritten_bound`: the bound as written, less each binary's coefficient as written, plus as rewritten, relaxed by what is kept, rounded outward.
+  -- The 0 stands for the Rust's `expect`: a rewritten binary is a term of its row as written
   unfoldable pub bindingSum : Row → ℕ → CDouble → List ℕ → CDouble
   bindingSum row r d [] = d
   bindingSum row r d (k ∷ ks) = bindingSum row r (double.plus (double.plus d (neg (orElse (coeffIn k (written M r)) 0f))) (coeffOf row k)) ks
 
+  -- no Eq row is rewritten (RowsKept/EqRows), where the Rust has `unreachable!`
   unfoldable pub boundWith : Row → ℕ → Option Binding → Float
   boundWith row r none = rhsOf M r
   boundWith row r (some b) =

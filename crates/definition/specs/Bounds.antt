@@ -1,6 +1,6 @@
 -- `fix`, `emit_bounds`, `tighten_upper` and `tighten_lower`: what changes a variable's bounds.
 use Prim.Native.Nat.{ℕ}
-use mathlib.Core.Bool.{true, false, not, _||_}
+use mathlib.Core.Bool.{true, false, _||_}
 use lib.ListN.{set}
 use lib.Ieee.{Float, lt}
 use Rattle.floats.specs.Num.{choose, _⊕_, _⊖_, _⊗_, gt, 1f, ½f, isFinite, abs, maxf, minf, floor, ceil}
@@ -17,6 +17,7 @@ module _ (M : Model) where
   unfoldable pub markTightened : ℕ → Work → Work
   markTightened v w = markVar M v (withCounts (tightened (w .counts)) w)
 
+  -- working bounds may already be tighter: they only shrink
   unfoldable pub emitBounds : ℕ → Float → Float → Work → Work
   emitBounds v lo hi w =
       withBounds

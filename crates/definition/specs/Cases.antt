@@ -1,7 +1,7 @@
 -- 01's "twelve model days": one table of models and answers, and one theorem, by computing the definition: each model is accepted, and has its answer.
 use mathlib.Core.Path.{_≡_, refl, ap, sym, subst}
 use mathlib.Core.Logic.{⊎-elim}
-use Prim.Native.Nat.{ℕ, zero, _+_, _^_}
+use Prim.Native.Nat.{ℕ, _+_, _^_}
 use mathlib.Core.Bool.{true, false}
 use mathlib.Core.List.{List, [], _∷_, _++_, List·Memᴰ, List·Memᴰ·cases-cons, List·Memᴰ·not-nil}
 use mathlib.Core.Option.{Option, none}
@@ -12,14 +12,14 @@ use Rattle.floats.specs.Value.{mags}
 use Rattle.floats.specs.Next.{gap, prev}
 use Rattle.floats.specs.Num.{choose, isFinite, isInfinite, abs, maxf, minf, truncOf, awayOf, floor, ceil, nextUp, nextDown, ofCount}
 use Rattle.cdouble.specs.Double as double
-use Rattle.tolerances.specs.Tol.{Term, term, rowTolerance, boundTolerance, outside, slackMin, slackMax, trivialVerdict, slackMargin, slackTol, lessTerm, impliedFrom, implied as tol·implied, impliedSlack, saysTrue, violated, zipTerms}
+use Rattle.tolerances.specs.Tol.{Term, term, rowTolerance, boundTolerance, outside, slackMin, slackMax, trivialVerdict, slackMargin, slackTol, lessTerm, impliedFrom, impliedSlack, saysTrue, violated, zipTerms}
 use Rattle.definition.specs.Params.{params}
 use Rattle.definition.specs.Model.{Model, from as model·from, upto, nnz, written, opOf, rhsOf, isIntDomain, isMip, isInt, asWritten, rhsMag, coeffIn, orElse, coeffOf, rangeMin, rangeMax, counts, Emit, Answer, infeasible, done}
 use Rattle.definition.specs.Work.{has, hasTerm, fixed, dropRow, budget, boundTol, trivial}
 use Rattle.definition.specs.Activities.{activityStep, activityFrom, activity}
 use Rattle.definition.specs.Marks.{markRow, adjacent, markFrom, markVar}
 use Rattle.definition.specs.Bounds.{fix, markTightened, emitBounds, upperInt, upperReal, tightenUpper, lowerInt, lowerReal, tightenLower}
-use Rattle.definition.specs.Folds.{swapRemove, foldTerm, foldStep, foldLoop, fixedBesidesFrom, fixedBesides, widened, bound?, givesBack, rewriteRoom, relaxWith, relaxBinding, givenBack, holdRewrites, foldFixed}
+use Rattle.definition.specs.Folds.{swapRemove, foldTerm, foldStep, foldLoop, fixedBesidesFrom, fixedBesides, widen, bound?, givesBack, rewriteRoom, relaxWith, relaxBinding, givenBack, holdRewrites, foldFixed}
 use Rattle.definition.specs.Singles.{fixedValue, finiteMag, emptyRowCheck, roomAt, widenedAt, droppedRoom, newLower, newUpper, singletonInt, singletonMisses, singletonBounds, lowerMeets, upperMeets, singletonDrop, singletonRow}
 use Rattle.definition.specs.Sides.{hiSide, loSide, magL, magU, withinLo, withinHi, within, withinBy, sideMag, magBoth, budgetL, budgetU, aboveHi, belowLo, unreachable, nearMin, nearMax, redundant}
 use Rattle.definition.specs.Forcing.{corner, forcedTerm, allForced, forcingAt, forcesMin, forcesMax, fixAll}
@@ -222,7 +222,7 @@ cases =
 
 -- to unfold this is to unfold all that its line names: every definition that presolve comes to
 unfoldable pub everything : Unit {0}
-unfolding neg add sub mul div lt eq le round ofInt ofBits toBits isNan ne mags gap prev choose isFinite isInfinite abs maxf minf truncOf awayOf floor ceil nextUp nextDown ofCount double.twoSum double.split double.twoProduct double.from double.plus double.plusProduct double.value double.rounded rowTolerance boundTolerance outside slackMin slackMax trivialVerdict slackMargin slackTol lessTerm impliedFrom tol·implied impliedSlack saysTrue violated zipTerms model·from upto nnz written opOf rhsOf isIntDomain isMip isInt asWritten rhsMag coeffIn orElse coeffOf rangeMin rangeMax has hasTerm fixed dropRow budget boundTol trivial activityStep activityFrom activity markRow adjacent markFrom markVar fix markTightened emitBounds upperInt upperReal tightenUpper lowerInt lowerReal tightenLower swapRemove foldTerm foldStep foldLoop fixedBesidesFrom fixedBesides widened bound? givesBack rewriteRoom relaxWith relaxBinding givenBack holdRewrites foldFixed fixedValue finiteMag emptyRowCheck roomAt widenedAt droppedRoom newLower newUpper singletonInt singletonMisses singletonBounds lowerMeets upperMeets singletonDrop singletonRow hiSide loSide magL magU withinLo withinHi within withinBy sideMag magBoth budgetL budgetU aboveHi belowLo unreachable nearMin nearMax redundant corner forcedTerm allForced forcingAt forcesMin forcesMax fixAll restOf finiteAbs implied impliedTerm impliedBounds idle severalTerms byCount waveRow waveRows wave waves formOf rewrites vacuousRoom actAfter shrinkLe raiseLe vacuousLe shrinkGe lowerGe vacuousGe vacuous sumCoeffs taken rewriteBinding growth bindingSum boundWith rewrittenBound setCoeff queued binary rewriteOf eligible reboundRow rowAfter rewriteStep rewriteLoop spared tightenForm tightenBy tightenRow tightenFrom tightenBinaryCoeffs blockTerms badDec badInc noneBad mayFall mayRise dualVar dualFrom dualFix crossed roundedLower roundedUpper roundVar roundFrom addRow readRow readFrom dualStep afterWaves rounds insertTerm sortTerms noTerms sameBounds outRow outEmpty outAlive outOne outFrom differs answerOf finish start afterRounding presolve
+unfolding neg add sub mul div lt eq le round ofInt ofBits toBits isNan ne mags gap prev choose isFinite isInfinite abs maxf minf truncOf awayOf floor ceil nextUp nextDown ofCount double.twoSum double.split double.twoProduct double.from double.plus double.plusProduct double.value double.rounded rowTolerance boundTolerance outside slackMin slackMax trivialVerdict slackMargin slackTol lessTerm impliedFrom impliedSlack saysTrue violated zipTerms model·from upto nnz written opOf rhsOf isIntDomain isMip isInt asWritten rhsMag coeffIn orElse coeffOf rangeMin rangeMax has hasTerm fixed dropRow budget boundTol trivial activityStep activityFrom activity markRow adjacent markFrom markVar fix markTightened emitBounds upperInt upperReal tightenUpper lowerInt lowerReal tightenLower swapRemove foldTerm foldStep foldLoop fixedBesidesFrom fixedBesides widen bound? givesBack rewriteRoom relaxWith relaxBinding givenBack holdRewrites foldFixed fixedValue finiteMag emptyRowCheck roomAt widenedAt droppedRoom newLower newUpper singletonInt singletonMisses singletonBounds lowerMeets upperMeets singletonDrop singletonRow hiSide loSide magL magU withinLo withinHi within withinBy sideMag magBoth budgetL budgetU aboveHi belowLo unreachable nearMin nearMax redundant corner forcedTerm allForced forcingAt forcesMin forcesMax fixAll restOf finiteAbs implied impliedTerm impliedBounds idle severalTerms byCount waveRow waveRows wave waves formOf rewrites vacuousRoom actAfter shrinkLe raiseLe vacuousLe shrinkGe lowerGe vacuousGe vacuous sumCoeffs taken rewriteBinding growth bindingSum boundWith rewrittenBound setCoeff queued binary rewriteOf eligible reboundRow rowAfter rewriteStep rewriteLoop spared tightenForm tightenBy tightenRow tightenFrom tightenBinaryCoeffs blockTerms badDec badInc noneBad mayFall mayRise dualVar dualFrom dualFix crossed roundedLower roundedUpper roundVar roundFrom addRow readRow readFrom dualStep afterWaves rounds insertTerm sortTerms noTerms sameBounds outRow outEmpty outAlive outOne outFrom differs answerOf finish start afterRounding presolve
 everything = tt
 
 -- a call's refusal, or none, and the definition's answer

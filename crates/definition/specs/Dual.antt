@@ -32,6 +32,7 @@ noneBad zero = []
 noneBad (suc n) = false ∷ noneBad n
 
 module _ (M : Model) where
+  -- the target is the working bound; the Rust asserts that it is the emitted one too
   unfoldable pub mayFall : List Bool → ℕ → Work → Bool
   mayFall dec v w = ge (at (M .obj) v) 0f && not (getD dec v true) && isFinite (at (w .wlo) v)
 

@@ -70,7 +70,7 @@ module _ (M : Model) where
         kept = o .kept ++ (r ∷ []);
       }
 
-  -- a row with terms left. Rewritten, it gets its folded terms back, but not its explicit zeros; without a finite bound it goes out as written
+  -- a row with terms left. Rewritten, it gets its folded terms back, but not its explicit zeros; without a finite bound it goes out as written, and is not kept
   unfoldable pub outRow : ℕ → Row → Out → Out
   outRow r row o =
       let b = rewrittenBound M row r in
@@ -91,6 +91,7 @@ module _ (M : Model) where
       let gone = outEmpty r o (emptyRowCheck M r row w1) in
       choose (noTerms (row .terms)) gone (final w1 (outRow r row o))
 
+  -- a row that is trivially true is not in the Rust's list: it neither goes out nor is kept
   unfoldable pub outOne : ℕ → Final → Final
   outOne r (fails k) = fails k
   outOne r (final w o) =

@@ -1,4 +1,4 @@
--- `fold_fixed`, `relax_binding` and `hold_rewrites`: fixed variables and zero coefficients leave a row, and a rewritten row's relaxation grows with them.
+-- `fold_fixed`, `relax_binding` and `hold_rewrites`: fixed variables and zero coefficients leave a row, and a rewritten row's relaxation grows with the fixed ones.
 use Prim.Native.Nat.{ℕ, zero, suc, _-_}
 use mathlib.Core.Bool.{Bool, true, false, not, _&&_}
 use mathlib.Core.List.{List, [], _∷_, _++_}
@@ -17,7 +17,7 @@ swapRemove ts i =
     let n = length ts - 1 in
     take n (set ts i (getD ts n noTerm))
 
--- a fixed variable's term leaves. An infinite side survives the shift
+-- a fixed variable's term leaves. An infinite side survives a finite shift; one that overflows can make it a NaN
 unfoldable pub foldTerm : Work → ℕ → Term → Row → Row
 foldTerm w i t row =
     let s = t .coeff ⊗ at (w .elo) (t .var) in
@@ -48,7 +48,7 @@ unfoldable pub foldLoop : ℕ → Work → ℕ × Row → ℕ × Row
 foldLoop zero w s = s
 foldLoop (suc n) w s = foldLoop n w (foldStep w s)
 
--- `fixed_besides`: the magnitude of the folded terms but the binaries'
+-- `fixed_besides`: the magnitude of the folded terms but the binaries'. The Rust's `sum` starts at minus zero, which is not seen: it is added to a magnitude
 unfoldable pub fixedBesidesFrom : Work → List ℕ → Float → List Term → Float
 fixedBesidesFrom w bs s [] = s
 fixedBesidesFrom w bs s (t ∷ ts) =
@@ -57,9 +57,9 @@ fixedBesidesFrom w bs s (t ∷ ts) =
 unfoldable pub fixedBesides : Work → Row → List ℕ → Float
 fixedBesides w row bs = fixedBesidesFrom w bs 0f (row .folded)
 
--- the bound that the binding keeps, wider by what it now keeps more
-unfoldable pub widened : Float → Float → Row → Row
-widened kept old row = choose (isFinite (row .hi)) (withRange (row .lo) (row .hi ⊕ (kept ⊖ old)) row) (withRange (row .lo ⊖ (kept ⊖ old)) (row .hi) row)
+-- `if hi.is_finite() { hi += widen } else { lo -= widen }`
+unfoldable pub widen : Float → Float → Row → Row
+widen kept old row = choose (isFinite (row .hi)) (withRange (row .lo) (row .hi ⊕ (kept ⊖ old)) row) (withRange (row .lo ⊖ (kept ⊖ old)) (row .hi) row)
 
 abbrev pub withKept : Float → Binding → Binding
 withKept k b = record { binaries = b .binaries; written = b .written; rewritten = b .rewritten; kept = k }
@@ -84,13 +84,13 @@ module _ (M : Model) where
   relaxWith w row (some b) =
       let kept = rewriteRoom (b .written) (b .rewritten) (fixedBesides w row (b .binaries)) in
       choose (gt kept (b .kept))
-      (withBinding (some (withKept kept b)) (widened kept (b .kept) row))
+      (withBinding (some (withKept kept b)) (widen kept (b .kept) row))
       (row)
 
   unfoldable pub relaxBinding : Work → Row → Row
   relaxBinding w row = relaxWith w row (row .binding)
 
-  -- the row as written, folded. It has no binding, so to fold it neither relaxes nor gives back again
+  -- the row as written, of nnz M r terms, folded. It has no binding, so to fold it neither relaxes nor gives back again
   unfoldable pub givenBack : ℕ → Work → Row
   givenBack r w = foldLoop (nnz M r) w (0, asWritten M r) .1
 

@@ -30,6 +30,7 @@ module _ (M : Model) where
   allForced r sliver mag w [] = true
   allForced r sliver mag w (t ∷ ts) = forcedTerm r sliver mag w t && allForced r sliver mag w ts
 
+  -- the corner is short of the bound by no more than round-off, or past it by no more than the budget
   unfoldable pub forcingAt : ℕ → Float → Float → Work → List Term → Bool
   forcingAt r sliver mag w ts = le sliver (ROUNDOFF-FLOOR ⊗ mag) && le (neg sliver) (budget M r mag) && allForced r sliver mag w ts
 

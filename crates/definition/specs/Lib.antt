@@ -1,4 +1,4 @@
--- The presolver as a definition, file by file as the Rust; the refusals; the twelve worked cases; the edges of what is accepted.
+-- The presolver as a definition, part by part as the Rust; the refusals and their edges; the twelve worked cases; no row lost (RowsKept); points kept (PointsKept).
 pub mod Params
 pub mod Model
 pub mod Work

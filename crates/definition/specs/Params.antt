@@ -1,4 +1,4 @@
--- src/presolve/params.rs: presolve's seven thresholds and caps, as one record that the definitions take. Definitions only.
+-- src/presolve/params.rs: presolve's seven thresholds and caps, as one record that the definitions take.
 use mathlib.Core.Path.{_≡_, refl}
 use mathlib.Core.Bool.{false}
 use Prim.Native.Nat.{ℕ, _*_, _^_}

@@ -63,17 +63,17 @@ module _ (M : Model) where
   abbrev pub terms : ℕ
   terms = length (M .index)
 
-  -- 1
+  -- 1: slice lengths disagree; row starts have one entry more than there are rows
   unfoldable pub lengthsDisagree : Bool
   lengthsDisagree =
       not (eqb (length (M .lower)) vars) || not (eqb (length (M .upper)) vars) || not (eqb (length (M .domain)) vars)
       || not (eqb (length (M .starts)) (suc rows)) || not (eqb (length (M .cmp)) rows) || not (eqb (length (M .coeff)) terms)
 
-  -- 2
+  -- 2: more than a maximum
   unfoldable pub tooLarge : Bool
   tooLarge = ltb MAX-VARS vars || ltb MAX-ROWS rows || ltb MAX-TERMS terms
 
-  -- 3
+  -- 3: the first start is not 0, one falls, or the last is not the term count
   unfoldable pub startFalls : ℕ → Bool
   startFalls r = ltb (upto M r) (from M r)
 
@@ -93,7 +93,7 @@ module _ (M : Model) where
   unfoldable pub indicesWrong : Bool
   indicesWrong = someBelow indexLarge terms || someBelow rowUnordered rows
 
-  -- 5
+  -- 5: a domain, comparison or mode above 2
   unfoldable pub domainWrong : ℕ → Bool
   domainWrong v = ltb 2 (getD (M .domain) v 0)
 
@@ -103,7 +103,7 @@ module _ (M : Model) where
   unfoldable pub codesWrong : Bool
   codesWrong = someBelow domainWrong vars || someBelow cmpWrong rows || ltb 2 (M .mode)
 
-  -- 6
+  -- 6: a bound is not a number, a lower one +infinity or an upper one -infinity
   unfoldable pub boundWrong : ℕ → Bool
   boundWrong v =
       let l = at (M .lower) v in
@@ -113,7 +113,7 @@ module _ (M : Model) where
   unfoldable pub boundsWrong : Bool
   boundsWrong = someBelow boundWrong vars
 
-  -- 7
+  -- 7: an objective or coefficient is not finite
   unfoldable pub objWrong : ℕ → Bool
   objWrong v = not (isFinite (at (M .obj) v))
 
@@ -123,21 +123,21 @@ module _ (M : Model) where
   unfoldable pub numbersWrong : Bool
   numbersWrong = someBelow objWrong vars || someBelow coeffWrong terms
 
-  -- 8
+  -- 8: `valid_rhs` says no
   unfoldable pub rhsWrong : ℕ → Bool
   rhsWrong r = not (validRhs (opOf M r) (rhsOf M r))
 
   unfoldable pub rhsesWrong : Bool
   rhsesWrong = someBelow rhsWrong rows
 
-  -- 9: -0 is a zero
+  -- 9: a tolerance outside 0 to 0.5, or not a number; -0 is a zero
   unfoldable pub toleranceWrong : Float → Bool
   toleranceWrong t = not (le 0f t && le t ½f)
 
   unfoldable pub tolerancesWrong : Bool
   tolerancesWrong = toleranceWrong (M .feas) || toleranceWrong (M .intTol)
 
-  -- 10
+  -- 10: a result or working slice is too short
   unfoldable pub tooShort : Lent → Bool
   tooShort L =
       ltb (L .lower) vars || ltb (L .upper) vars

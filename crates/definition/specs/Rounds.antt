@@ -11,6 +11,7 @@ use Rattle.definition.specs.Tighten.{tightenBinaryCoeffs}
 use Rattle.definition.specs.Dual.{dualFix}
 
 module _ (M : Model) where
+  -- mode 2 is the Rust's `allow_dual`
   unfoldable pub dualStep : Work → Work × Bool
   dualStep w = let d = dualFix M w in choose (eqb (M .mode) 2) d (w, false)
 

@@ -22,7 +22,8 @@ magL row act = act .absL ⊕ rhsMag row (row .hi) ⊕ row .foldScale
 unfoldable pub magU : Row → Activity → Float
 magU row act = act .absU ⊕ rhsMag row (row .lo) ⊕ row .foldScale
 
--- ---- redundancy: each side, reached by a corner with its slack
+-- ---- redundancy: whether a side is infinite, or the corner that reaches furthest past it, with its slack, stays within the limit.
+-- `within` is the Rust's `w_lo_red && w_hi_red`, `withinBy` its `lo_red && hi_red`
 unfoldable pub withinLo : Float → Row → Activity → Bool
 withinLo limit row act = not (isFinite (row .lo)) || eqb (act .ninfL) 0 && ge (act .l ⊖ act .slackL) limit
 
@@ -35,7 +36,7 @@ within row act = withinLo (row .lo) row act && withinHi (row .hi) row act
 unfoldable pub withinBy : Float → Row → Activity → Bool
 withinBy red row act = withinLo (row .lo ⊕ red) row act && withinHi (row .hi ⊖ red) row act
 
--- the magnitude of a finite side
+-- the magnitude of a finite side, 0 of an infinite one
 unfoldable pub sideMag : Row → Float → Float
 sideMag row b = choose (isFinite b) (rhsMag row b) 0f
 

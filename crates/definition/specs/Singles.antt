@@ -1,5 +1,5 @@
 -- `empty_row_check` and `singleton_row`: rows of no term, and of one.
-use Prim.Native.Nat.{ℕ, zero}
+use Prim.Native.Nat.{ℕ}
 use mathlib.Core.Bool.{Bool, true, false, not, _&&_, _||_}
 use lib.Ieee.{Float, lt, le}
 use Rattle.floats.specs.Num.{choose, _⊕_, _⊖_, _⊗_, _⊘_, gt, ge, 0f, isFinite, abs, maxf, minf, floor, ceil}
@@ -12,7 +12,7 @@ use Rattle.definition.specs.Bounds.{emitBounds}
 unfoldable pub fixedValue : Work → ℕ → Float
 fixedValue w v = choose (fixed w v) (at (w .elo) v) 0f
 
--- the row's magnitude where the side b is tight
+-- the row's magnitude where the side b is tight; 0 of an infinite side
 unfoldable pub finiteMag : Row → Float → Float
 finiteMag row b = choose (isFinite b) (rhsMag row b ⊕ abs b ⊕ row .foldScale) 0f
 

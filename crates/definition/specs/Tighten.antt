@@ -39,7 +39,7 @@ module _ (M : Model) where
   unfoldable pub binary : Work → ℕ → Bool
   binary w v = isIntDomain M v && eq (at (w .elo) v) 0f && eq (at (w .ehi) v) 1f
 
-  -- nz: the relaxation of the vacuous branch
+  -- nz: the relaxation of the vacuous branch. The Rust writes this test twice, where it counts and where it rewrites, with the same operations in the same order
   unfoldable pub rewriteOf : Form → Float → Work → Row → Activity → Term → Rewrite
   rewriteOf f nz w row act t = choose (binary w (t .var) && not (eq (t .coeff) 0f)) (vacuous M f nz row act (t .coeff)) keeps
 

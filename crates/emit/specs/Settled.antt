@@ -15,7 +15,7 @@ use Rattle.tolerances.specs.Tol.{violated}
 use Rattle.definition.specs.declared.Counts.{Counts}
 use Rattle.definition.specs.Model.{Model, nnz, written, opOf, rhsOf, Binding, Row, withAlive, asWritten}
 use Rattle.definition.specs.Work.{Work, withRow, Step, stop, next, _>>=_, noRow, noTerm, fixed, dropRow, trivial}
-use Rattle.definition.specs.Folds.{foldTerm, foldStep, foldLoop, fixedBesides, widened, givesBack, rewriteRoom, relaxWith, relaxBinding, givenBack, holdRewrites, foldFixed}
+use Rattle.definition.specs.Folds.{foldTerm, foldStep, foldLoop, fixedBesides, widen, givesBack, rewriteRoom, relaxWith, relaxBinding, givenBack, holdRewrites, foldFixed}
 use Rattle.definition.specs.Singles.{fixedValue, emptyRowCheck}
 use Rattle.definition.specs.Emit.{Out, noOut, Final, fails, final, keepRow, noTerms, outRow, outEmpty, outAlive, outOne, outFrom}
 use Rattle.view.specs.Lists.{yes, no, either}
@@ -71,8 +71,8 @@ unfolding foldLoop
 loop-alive zero w s = refl
 loop-alive (suc n) w s = loop-alive n w (foldStep w s) ∙ step-alive w s
 
-widened-alive : (k o : Float) (row : Row) → widened k o row .alive ≡ row .alive
-unfolding widened
+widened-alive : (k o : Float) (row : Row) → widen k o row .alive ≡ row .alive
+unfolding widen
 widened-alive k o row = either (λ (z : Row). z .alive ≡ row .alive) (isFinite (row .hi)) (λ e. refl) (λ e. refl)
 
 relax-alive : (M : Model) (w : Work) (row : Row) (b : Option Binding) → relaxWith M w row b .alive ≡ row .alive

@@ -7,13 +7,13 @@ use native.Mathlib.Omega.{arith}
 use mathlib.Core.Bool.{Bool, true}
 use mathlib.Core.List.{List, [], _∷_}
 use lib.ListN.{length}
-use lib.IntN.{ℤ, pos, _+ℤ_, _-ℤ_, _*ℤ_, +ℤ-assoc, +ℤ-idr}
+use lib.IntN.{ℤ, pos, _+ℤ_, _*ℤ_, +ℤ-assoc, +ℤ-idr}
 use lib.Ieee.{Float}
-use Rattle.floats.specs.Zed.{A, side, add-parts, sub-parts}
+use Rattle.floats.specs.Zed.{A, side, add-parts}
 use Rattle.floats.specs.Whole.{size-mul}
 use Rattle.floats.specs.Extremes.{num-finite}
-use Rattle.floats.specs.Points.{int, Bounded, Is, whole-num, add-is, sub-is, mul-is, abs-is}
-use Rattle.floats.specs.Num.{choose, _⊕_, _⊖_, _⊗_, abs, isFinite}
+use Rattle.floats.specs.Points.{int, Bounded, Is, whole-num, add-is, mul-is, abs-is}
+use Rattle.floats.specs.Num.{choose, _⊕_, _⊗_, abs, isFinite}
 
 -- ---- the sum, from s on: of floats, each addition rounding once, and of whole numbers
 unfoldable pub sumFrom : {B : Type 0} → (B → Float) → Float → List B → Float
@@ -47,9 +47,6 @@ pub record Part (k : ℕ) (x : Float) (z : ℤ) : Type 0 where
 size-add : (a b : ℤ) → A (a +ℤ b) ≤ A a + A b
 size-add a b = omega (arith, add-parts a b, side (a +ℤ b))
 
-size-sub : (a b : ℤ) → A (a -ℤ b) ≤ A a + A b
-size-sub a b = omega (arith, sub-parts a b, side (a -ℤ b))
-
 within : {k : ℕ} {x : Float} {z : ℤ} → Part k x z → k ≤ 2 ^ 53 → Bounded (2 ^ 53) x
 within p h = record { whole = p .is .whole; small = le-trans (le-of-eq (ap A (p .is .is))) (le-trans (p .small) h) }
 
@@ -61,13 +58,6 @@ part-sum {j} {k} {x} {y} {a} {b} p q h =
     let e : int x +ℤ int y ≡ a +ℤ b = ap (λ (z : ℤ). z +ℤ int y) (p .is .is) ∙ ap (λ (z : ℤ). a +ℤ z) (q .is .is) in
     let s : A (a +ℤ b) ≤ j + k = omega (arith, size-add a b, p .small, q .small) in
     let r = add-is (within p (omega arith)) (within q (omega arith)) (subst (λ (z : ℤ). A z ≤ 2 ^ 53) (sym e) (le-trans s h)) in
-    record { is = record { whole = r .whole; is = r .is ∙ e }; small = s }
-
-pub part-difference : {j k : ℕ} {x y : Float} {a b : ℤ} → Part j x a → Part k y b → j + k ≤ 2 ^ 53 → Part (j + k) (x ⊖ y) (a -ℤ b)
-part-difference {j} {k} {x} {y} {a} {b} p q h =
-    let e : int x -ℤ int y ≡ a -ℤ b = ap (λ (z : ℤ). z -ℤ int y) (p .is .is) ∙ ap (λ (z : ℤ). a -ℤ z) (q .is .is) in
-    let s : A (a -ℤ b) ≤ j + k = omega (arith, size-sub a b, p .small, q .small) in
-    let r = sub-is (within p (omega arith)) (within q (omega arith)) (subst (λ (z : ℤ). A z ≤ 2 ^ 53) (sym e) (le-trans s h)) in
     record { is = record { whole = r .whole; is = r .is ∙ e }; small = s }
 
 pub part-product : {j k : ℕ} {x y : Float} {a b : ℤ} → Part j x a → Part k y b → j ≤ 2 ^ 53 → k ≤ 2 ^ 53 → j * k ≤ 2 ^ 53 → Part (j * k) (x ⊗ y) (a *ℤ b)

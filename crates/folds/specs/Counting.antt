@@ -140,9 +140,6 @@ unfolding hasNonzero orBy
 nonzero-or v [] = refl
 nonzero-or v (t ∷ l) = ap (λ (b : Bool). (eqb (t .var) v && not (eq (t .coeff) 0f)) || b) (nonzero-or v l)
 
-pub has-count : (v : ℕ) (l : List Term) → hasTerm v l ≡ true → 1 ≤ countBy (isVar v) l
-has-count v l e = or-count (isVar v) l (sym (has-or v l) ∙ e)
-
 pub count-has : (v : ℕ) (l : List Term) → 1 ≤ countBy (isVar v) l → hasTerm v l ≡ true
 count-has v l h = has-or v l ∙ count-or (isVar v) l h
 

@@ -16,7 +16,6 @@ use Rattle.definition.specs.Folds.{swapRemove, foldTerm, foldStep}
 use Rattle.space.specs.declared.Shape.{Shape}
 use Rattle.space.specs.Store.{Floats, Numbers}
 use Rattle.view.specs.Call.{Call}
-use Rattle.view.specs.Acts.{Reads}
 use Rattle.view.specs.Known.{Spans}
 use Rattle.view.specs.Lists.{yes, no}
 use Rattle.view.specs.Rows.{OneRow}
@@ -43,9 +42,6 @@ fixed-no f v e₁ e₂ t = rw (← e₁, ← e₂, t)
 pub fixed-is : (f : Floats) (w : Work) (v : ℕ) → f .elo ≡ w .elo → f .ehi ≡ w .ehi → fixed w v ≡ fixedIn f v
 unfolding fixed fixedIn
 fixed-is f w v e₁ e₂ = rw (← e₁, ← e₂)
-
-pub fixed-reads : {P : Model → Type 0} {s : Shape} {f : Floats} {n : Numbers} (v : ℕ) {z : Bool} → z ≡ fixedIn f v → Reads P s f n z (λ M w. fixed w v)
-fixed-reads {f = f} v e = record { reads = λ M o k w p c h i. fixed-is f w v (h .elo) (h .ehi) ∙ sym e }
 
 -- ---- a variable of a row is a variable of the model
 or-cases : {A : Type 0} (b o : Bool) → (b ≡ true → A) → (o ≡ true → A) → b || o ≡ true → A

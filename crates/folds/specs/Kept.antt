@@ -10,7 +10,7 @@ use lib.Ieee.{Float}
 use Rattle.floats.specs.Num.{choose, _⊕_, _⊖_, gt, isFinite}
 use Rattle.definition.specs.Model.{Model, nnz, written, Row, Binding, withRange, withBinding, asWritten}
 use Rattle.definition.specs.Work.{Work, withRow, noRow}
-use Rattle.definition.specs.Folds.{foldLoop, bound?, givesBack, withKept, widened, rewriteRoom, fixedBesides, relaxWith, relaxBinding, givenBack, holdRewrites, foldFixed}
+use Rattle.definition.specs.Folds.{foldLoop, bound?, givesBack, withKept, widen, rewriteRoom, fixedBesides, relaxWith, relaxBinding, givenBack, holdRewrites, foldFixed}
 use Rattle.space.specs.declared.Shape.{Shape}
 use Rattle.view.specs.Call.{Call}
 use Rattle.view.specs.Inv.{BinariesIn, BindingIn, someIn, RowInv}
@@ -41,7 +41,7 @@ some-in : {M : Model} {r : ℕ} {x : Row} {b : Binding} → BindingIn M r x (som
 some-in (someIn i) = i
 
 relax-with-kept : (M : Model) (r : ℕ) (w : Work) (x : Row) (o : Option Binding) → x .binding ≡ o → Kept M r x (relaxWith M w x o)
-unfolding relaxWith widened
+unfolding relaxWith widen
 relax-with-kept M r w x none e = kept-same
 relax-with-kept M r w x (some b) e =
     let k = rewriteRoom M (b .written) (b .rewritten) (fixedBesides w x (b .binaries)) in
@@ -115,14 +115,3 @@ fold-fixed-keeps r p =
           let l : r < length (M .rhs) = omega (arith, p, c .rows) in
           inv-row r (foldFixed M r w (getD (w .rows) r noRow)) w i (fold-fixed-kept r w c l (getD (w .rows) r noRow) .inv (i .rows r l));
     }
-
-pub hold-rewrites-keeps : {P : Model → Type 0} {s : Shape} (r : ℕ) → r < s .rows → Keeps P s (λ M w. withRow r (holdRewrites M r w (getD (w .rows) r noRow)) w)
-hold-rewrites-keeps r p =
-    record {
-      keeps = λ M k w h c i.
-          let l : r < length (M .rhs) = omega (arith, p, c .rows) in
-          inv-row r (holdRewrites M r w (getD (w .rows) r noRow)) w i (hold-kept r w c l (getD (w .rows) r noRow) .inv (i .rows r l));
-    }
-
-pub as-written-keeps : {P : Model → Type 0} {s : Shape} (r : ℕ) → r < s .rows → Keeps P s (λ M. withRow r (asWritten M r))
-as-written-keeps r p = record { keeps = λ M k w h c i. inv-row r (asWritten M r) w i (λ _. as-written-inv c (omega (arith, p, c .rows))) }

@@ -12,7 +12,7 @@ use Rattle.floats.specs.Num.{choose, _⊕_, _⊖_, gt, isFinite}
 use Rattle.tolerances.specs.Tol.{at}
 use Rattle.definition.specs.Model.{Model, from, upto, Row, Binding, withRange, withBinding}
 use Rattle.definition.specs.Work.{Work}
-use Rattle.definition.specs.Folds.{widened, withKept, rewriteRoom, fixedBesides, relaxWith, relaxBinding}
+use Rattle.definition.specs.Folds.{widen, withKept, rewriteRoom, fixedBesides, relaxWith, relaxBinding}
 use Rattle.space.specs.declared.Shape.{Shape}
 use Rattle.space.specs.Store.{Floats, Numbers, put-lo, put-hi, put-kept}
 use Rattle.view.specs.Call.{Call}
@@ -228,26 +228,26 @@ module _ {M : Model} {s : Shape} {r : ℕ} {f : Floats} {n : Numbers} {w : Work}
 
 -- ---- widen: the floats alone change
 pub record Widens (s : Shape) (r : ℕ) (kept old : Float) (f f′ : Floats) : Type 0 where
-  pub does : (M : Model) (n : Numbers) (w : Work) (x : Row) → Call M s → Stands M r f n w x → OneRow M r (widened kept old x) f n f′ n
+  pub does : (M : Model) (n : Numbers) (w : Work) (x : Row) → Call M s → Stands M r f n w x → OneRow M r (widen kept old x) f n f′ n
 
 module _ {s : Shape} (r : ℕ) (kept old : Float) (f : Floats) (p : r < s .rows) {hi : Float} {b : Bool} (eh : hi ≡ getD (f .hi) r nan) (eb : b ≡ isFinite hi) where
   module _ (M : Model) (n : Numbers) (w : Work) (x : Row) (c : Call M s) (h : Stands M r f n w x) where
     side-is : {d : Bool} → b ≡ d → isFinite (x .hi) ≡ d
     side-is e = ap isFinite (sym (eh ∙ h .shown .hi)) ∙ sym eb ∙ e
 
-    widen-yes : b ≡ true → widened kept old x ≡ withRange (x .lo) (x .hi ⊕ (kept ⊖ old)) x
-    unfolding widened
+    widen-yes : b ≡ true → widen kept old x ≡ withRange (x .lo) (x .hi ⊕ (kept ⊖ old)) x
+    unfolding widen
     widen-yes e = yes _ _ (side-is e)
 
-    widen-no : b ≡ false → widened kept old x ≡ withRange (x .lo ⊖ (kept ⊖ old)) (x .hi) x
-    unfolding widened
+    widen-no : b ≡ false → widen kept old x ≡ withRange (x .lo ⊖ (kept ⊖ old)) (x .hi) x
+    unfolding widen
     widen-no e = no _ _ (side-is e)
 
   pub widen-hi : {f₁ : Floats} → length (f .hi) ≡ s .rows → b ≡ true → f₁ ≡ put-hi r (hi ⊕ (kept ⊖ old)) f → Widens s r kept old f f₁
   widen-hi {f₁} l t e =
       record {
         does = λ M n w x c h.
-            let y : withRange (x .lo) (hi ⊕ (kept ⊖ old)) x ≡ widened kept old x = ap (λ (u : Float). withRange (x .lo) (u ⊕ (kept ⊖ old)) x) (eh ∙ h .shown .hi) ∙ sym (widen-yes M n w x c h t) in
+            let y : withRange (x .lo) (hi ⊕ (kept ⊖ old)) x ≡ widen kept old x = ap (λ (u : Float). withRange (x .lo) (u ⊕ (kept ⊖ old)) x) (eh ∙ h .shown .hi) ∙ sym (widen-yes M n w x c h t) in
             subst (λ (u : Row). OneRow M r u f n f₁ n) y (hi-one c (omega (arith, p, c .rows)) h (hi ⊕ (kept ⊖ old)) l e);
       }
 
@@ -255,7 +255,7 @@ module _ {s : Shape} (r : ℕ) (kept old : Float) (f : Floats) (p : r < s .rows)
   widen-lo {f₁} {lo} l t el e =
       record {
         does = λ M n w x c h.
-            let y : withRange (lo ⊖ (kept ⊖ old)) (x .hi) x ≡ widened kept old x = ap (λ (u : Float). withRange (u ⊖ (kept ⊖ old)) (x .hi) x) (el ∙ h .shown .lo) ∙ sym (widen-no M n w x c h t) in
+            let y : withRange (lo ⊖ (kept ⊖ old)) (x .hi) x ≡ widen kept old x = ap (λ (u : Float). withRange (u ⊖ (kept ⊖ old)) (x .hi) x) (el ∙ h .shown .lo) ∙ sym (widen-no M n w x c h t) in
             subst (λ (u : Row). OneRow M r u f n f₁ n) y (lo-one c (omega (arith, p, c .rows)) h (lo ⊖ (kept ⊖ old)) l e);
       }
 
@@ -266,18 +266,18 @@ unfolding choose
 choose-binding true o x y = refl
 choose-binding false o x y = refl
 
-widened-binding : (kept old : Float) (o : Option Binding) (x : Row) → widened kept old (withBinding o x) ≡ withBinding o (widened kept old x)
-unfolding widened
+widened-binding : (kept old : Float) (o : Option Binding) (x : Row) → widen kept old (withBinding o x) ≡ withBinding o (widen kept old x)
+unfolding widen
 widened-binding kept old o x = go (isFinite (x .hi))
   where
     go : (b : Bool) → choose b (withRange (x .lo) (x .hi ⊕ (kept ⊖ old)) (withBinding o x)) (withRange (x .lo ⊖ (kept ⊖ old)) (x .hi) (withBinding o x)) ≡ withBinding o (choose b (withRange (x .lo) (x .hi ⊕ (kept ⊖ old)) x) (withRange (x .lo ⊖ (kept ⊖ old)) (x .hi) x))
     go b = choose-binding b o _ _
 
 relax-some : (M : Model) (w : Work) (x : Row) (b : Binding) (k : Float) → x .binding ≡ some b → k ≡ rewriteRoom M (b .written) (b .rewritten) (fixedBesides w x (b .binaries))
-    → relaxBinding M w x ≡ choose (gt k (b .kept)) (withBinding (some (withKept k b)) (widened k (b .kept) x)) x
+    → relaxBinding M w x ≡ choose (gt k (b .kept)) (withBinding (some (withKept k b)) (widen k (b .kept) x)) x
 unfolding relaxBinding relaxWith
 relax-some M w x b k e ek =
-    ap (relaxWith M w x) e ∙ ap (λ (u : Float). choose (gt u (b .kept)) (withBinding (some (withKept u b)) (widened u (b .kept) x)) x) (sym ek)
+    ap (relaxWith M w x) e ∙ ap (λ (u : Float). choose (gt u (b .kept)) (withBinding (some (withKept u b)) (widen u (b .kept) x)) x) (sym ek)
 
 pub relax-unbound : (M : Model) (w : Work) (x : Row) → x .binding ≡ none → relaxBinding M w x ≡ x
 unfolding relaxBinding relaxWith
@@ -308,7 +308,7 @@ module _ {s : Shape} {starts : List ℕ} {r : ℕ} (f : Floats) (n : Numbers) (p
       old-is : old ≡ b .kept
       old-is = eo ∙ bound .shown .kept
 
-      relax-is : relaxBinding M w x ≡ choose (gt kept (b .kept)) (withBinding (some (withKept kept b)) (widened kept (b .kept) x)) x
+      relax-is : relaxBinding M w x ≡ choose (gt kept (b .kept)) (withBinding (some (withKept kept b)) (widen kept (b .kept) x)) x
       relax-is = relax-some M w x b kept (bound .is) kept-is
 
     pub relax-same : lt old kept ≡ false → Turns (Spans starts) s r f n f n relaxBinding
@@ -325,8 +325,8 @@ module _ {s : Shape} {starts : List ℕ} {r : ℕ} (f : Floats) (n : Numbers) (p
           does = λ M w x g c h.
               let b = bound M w x g c h .binding in
               let o = some (withKept kept b) in
-              let y : relaxBinding M w x ≡ withBinding o (widened kept (b .kept) x) = relax-is M w x g c h ∙ yes _ _ (rw (old-is M w x g c h) at t) in
-              let z : widened kept old (withBinding o x) ≡ relaxBinding M w x = ap (λ (u : Float). widened kept u (withBinding o x)) (old-is M w x g c h) ∙ widened-binding kept (b .kept) o x ∙ sym y in
+              let y : relaxBinding M w x ≡ withBinding o (widen kept (b .kept) x) = relax-is M w x g c h ∙ yes _ _ (rw (old-is M w x g c h) at t) in
+              let z : widen kept old (withBinding o x) ≡ relaxBinding M w x = ap (λ (u : Float). widen kept u (withBinding o x)) (old-is M w x g c h) ∙ widened-binding kept (b .kept) o x ∙ sym y in
               let a = kept-one c (omega (arith, p, c .rows)) h kept (bound M w x g c h .shown) l e in
               subst (λ (u : Row). OneRow M r u f n f₂ n) z (one-then a (v .does M n w (withBinding o x) c (stands-after h a (h .alive))));
         }

@@ -15,7 +15,6 @@ use Rattle.view.specs.Inv.{RowInv}
 use Rattle.view.specs.Acts.{Ready, Acts, Reads}
 use Rattle.view.specs.Lists.{one-is}
 use Rattle.view.specs.Rows.{OneRow, shows-row}
-use Rattle.folds.specs.Counting.{eqb-true}
 
 -- the emitted bounds are w's, and row r, which is alive, is x
 pub record Stands (M : Model) (r : ℕ) (f : Floats) (n : Numbers) (w : Work) (x : Row) : Type 0 where
@@ -127,11 +126,6 @@ pub tells-reads : {A : Type 0} {P : Model → Type 0} {s : Shape} {r : ℕ} {f :
     → Reads P s f n z (λ M w. F M w (getD (w .rows) r noRow))
 tells-reads {r = r} p e t = record { reads = λ M o k w x c h i. t .tells M w (getD (w .rows) r noRow) x c (stands-in c p e h) }
 
--- its flag is 1
-pub alive-is : {P : Model → Type 0} {s : Shape} {r : ℕ} {f : Floats} {n : Numbers} → Standing P s r f n → getD (n .alive) r 0 ≡ 1
-unfolding isOne
-alive-is {r = r} {n = n} G = eqb-true (getD (n .alive) r 0) 1 (G .stands .flag)
-
 -- ---- a contract that asks for P holds where Q, which says more, is known
 module _ {P Q : Model → Type 0} {s : Shape} {r : ℕ} (q : (M : Model) → Q M → P M) where
   pub standing-under : {f : Floats} {n : Numbers} → Standing Q s r f n → Standing P s r f n
@@ -140,11 +134,5 @@ module _ {P Q : Model → Type 0} {s : Shape} {r : ℕ} (q : (M : Model) → Q M
   pub turns-under : {f f′ : Floats} {n n′ : Numbers} {F : Model → Work → Row → Row} → Turns P s r f n f′ n′ F → Turns Q s r f n f′ n′ F
   turns-under t = record { does = λ M w x p c h. t .does M w x (q M p) c h }
 
-  pub tells-under : {A : Type 0} {f : Floats} {n : Numbers} {z : A} {F : Model → Work → Row → A} → Tells P s r f n z F → Tells Q s r f n z F
-  tells-under t = record { tells = λ M w x p c h. t .tells M w x (q M p) c h }
-
 pub standing-numbers : {P : Model → Type 0} {s : Shape} {r : ℕ} {f : Floats} {n : Numbers} → Standing P s r f n → StandingN P s r n
 standing-numbers {f = f} G = record { floats = f; standing = G }
-
-pub tells-numbers : {A : Type 0} {P : Model → Type 0} {s : Shape} {r : ℕ} {f : Floats} {n : Numbers} {z : A} {F : Model → Work → Row → A} → TellsN P s r n z F → Tells P s r f n z F
-tells-numbers {f = f} t = record { tells = λ M w x p c h. t .tells f M w x p c h }

@@ -12,15 +12,14 @@ use lib.Ieee.{Float, nan, neg, ofBits}
 use Rattle.floats.specs.Num.{choose, 0f, ∞f, -∞f}
 use Rattle.tolerances.specs.Tol.{term, at, zipTerms}
 use Rattle.definition.specs.Model.{Model, from, upto, nnz, written, opOf, rhsOf, Row, asWritten}
-use Rattle.definition.specs.Work.{withRow, noTerm}
+use Rattle.definition.specs.Work.{noTerm}
 use Rattle.space.specs.declared.Shape.{Shape}
 use Rattle.space.specs.Store.{Floats, Numbers, put-lo, put-hi, put-foldScale, put-shift, put-coeffs, put-len, put-folded, put-alive, put-touched, put-binaries, put-vars}
 use Rattle.view.specs.Call.{Call}
 use Rattle.view.specs.Shows.{isOne, Parts, partsOf, TermShown, unbound, RowShown}
-use Rattle.view.specs.Acts.{Acts}
 use Rattle.view.specs.Known.{Written}
 use Rattle.view.specs.Lists.{yes, no, one-is, zero-is}
-use Rattle.view.specs.Rows.{same?, OneRow, shows-row}
+use Rattle.view.specs.Rows.{same?, OneRow}
 use Rattle.folds.specs.Apart.{Apart, elsewhere, untouched, outside, nnz-is, other-shown}
 use Rattle.folds.specs.Sized.{Sized}
 
@@ -57,9 +56,6 @@ below-inf e = ap neg e
 -- what such a function promises: row r shows X, and the rest shows what it did
 pub record Writes (P : Model → Type 0) (s : Shape) (r : ℕ) (f : Floats) (n : Numbers) (f′ : Floats) (n′ : Numbers) (X : Model → Row) : Type 0 where
   pub does : (M : Model) → P M → Call M s → OneRow M r (X M) f n f′ n′
-
-pub writes-acts : {P : Model → Type 0} {s : Shape} {r : ℕ} {f f′ : Floats} {n n′ : Numbers} {X : Model → Row} → r < s .rows → Writes P s r f n f′ n′ X → Acts P s f n f′ n′ (λ M. withRow r (X M))
-writes-acts {r = r} {X = X} p h = record { does = λ M o k w x c z i. shows-row r (X M) w (omega (arith, p, c .rows)) z i (h .does M x c) }
 
 -- ---- the input row's terms
 pub zip-length : (vs : List ℕ) (cs : List Float) → length vs ≡ length cs → length (zipTerms vs cs) ≡ length vs

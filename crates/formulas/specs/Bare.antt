@@ -2,14 +2,13 @@
 -- each definition that they compute says the same of every row with the four floats.
 use Prim.Native.Nat.{ℕ}
 use mathlib.Core.Path.{_≡_, refl}
-use mathlib.Core.Bool.{Bool, true, false}
-use mathlib.Core.List.{List, []}
-use mathlib.Core.Option.{Option, none}
+use mathlib.Core.Bool.{true, false}
+use mathlib.Core.List.{[]}
+use mathlib.Core.Option.{none}
 use lib.Ieee.{Float}
-use Rattle.tolerances.specs.Tol.{Term}
 use Rattle.definition.specs.declared.Activity.{Activity}
 use Rattle.definition.specs.Params.{params}
-use Rattle.definition.specs.Model.{Model, Binding, Row, withAlive, withTouched, withTerms, withRange, withBinding, nnz, rhsMag}
+use Rattle.definition.specs.Model.{Model, Row, nnz, rhsMag}
 use Rattle.definition.specs.Sides.{hiSide, loSide, magL, magU, withinLo, withinHi, within, withinBy, sideMag, magBoth, budgetL, budgetU, aboveHi, belowLo, unreachable, nearMin, nearMax, redundant}
 use Rattle.definition.specs.Singles.{finiteMag, roomAt, widenedAt, droppedRoom, newLower, newUpper}
 use Rattle.definition.specs.Rewrites.{Form, leForm, geForm, noForm, formOf, vacuousRoom, vacuousLe, vacuousGe, vacuous}
@@ -30,9 +29,6 @@ bare x =
       binding = none;
     }
 
-abbrev pub limitsOf : Row → Limits
-limitsOf w = record { lo = w .lo; hi = w .hi; foldScale = w .foldScale; shift = w .shift }
-
 -- the row w has these four floats
 pub record Has (x : Limits) (w : Row) : Type 0 where
   pub lo : x .lo ≡ w .lo
@@ -40,28 +36,8 @@ pub record Has (x : Limits) (w : Row) : Type 0 where
   pub foldScale : x .foldScale ≡ w .foldScale
   pub shift : x .shift ≡ w .shift
 
-pub limits-of : {x : Limits} {w : Row} → Has x w → x ≡ limitsOf w
-limits-of h = λ i. record { lo = h .lo i; hi = h .hi i; foldScale = h .foldScale i; shift = h .shift i }
-
-pub has-limits : {x : Limits} (w : Row) → x ≡ limitsOf w → Has x w
-has-limits w e = record { lo = cc; hi = cc; foldScale = cc; shift = cc }
-
 -- what changes the rest of the row keeps them
 module _ {x : Limits} {w : Row} (h : Has x w) where
-  pub has-terms : (ts : List Term) → Has x (withTerms ts w)
-  has-terms ts = has-limits (withTerms ts w) (limits-of h)
-
-  pub has-alive : (b : Bool) → Has x (withAlive b w)
-  has-alive b = has-limits (withAlive b w) (limits-of h)
-
-  pub has-touched : (b : Bool) → Has x (withTouched b w)
-  has-touched b = has-limits (withTouched b w) (limits-of h)
-
-  pub has-binding : (b : Option Binding) → Has x (withBinding b w)
-  has-binding b = has-limits (withBinding b w) (limits-of h)
-
-  pub has-range : (l u : Float) → Has (record { lo = l; hi = u; foldScale = x .foldScale; shift = x .shift }) (withRange l u w)
-  has-range l u = record { lo = refl; hi = refl; foldScale = h .foldScale; shift = h .shift }
 
 -- row r of the model has n terms as written, and the model has this tolerance and the Rust's seven numbers
 pub record Of (M : Model) (r : ℕ) (tol : Float) (n : ℕ) : Type 0 where
@@ -101,14 +77,6 @@ module _ {x : Limits} {w : Row} where
   unfolding magU rhsMag
   mag-u-of act h = cc
 
-  pub within-lo-of : (limit : Float) (act : Activity) → Has x w → withinLo limit (bare x) act ≡ withinLo limit w act
-  unfolding withinLo
-  within-lo-of limit act h = cc
-
-  pub within-hi-of : (limit : Float) (act : Activity) → Has x w → withinHi limit (bare x) act ≡ withinHi limit w act
-  unfolding withinHi
-  within-hi-of limit act h = cc
-
   pub within-of : (act : Activity) → Has x w → within (bare x) act ≡ within w act
   unfolding within withinLo withinHi
   within-of act h = cc
@@ -116,10 +84,6 @@ module _ {x : Limits} {w : Row} where
   pub within-by-of : (red : Float) (act : Activity) → Has x w → withinBy red (bare x) act ≡ withinBy red w act
   unfolding withinBy withinLo withinHi
   within-by-of red act h = cc
-
-  pub side-mag-of : (b : Float) → Has x w → sideMag (bare x) b ≡ sideMag w b
-  unfolding sideMag rhsMag
-  side-mag-of b h = cc
 
   pub mag-both-of : (e : Activity) → Has x w → magBoth (bare x) e ≡ magBoth w e
   unfolding magBoth sideMag rhsMag
@@ -185,10 +149,6 @@ module _ {x : Limits} {w : Row} where
     vacuous-of leForm nz act a h = cc (vacuous-le-of nz act a h)
     vacuous-of geForm nz act a h = cc (vacuous-ge-of nz act a h)
     vacuous-of noForm nz act a h = refl
-
-  pub finite-mag-of : (b : Float) → Has x w → finiteMag (bare x) b ≡ finiteMag w b
-  unfolding finiteMag rhsMag
-  finite-mag-of b h = cc
 
   pub form-of-of : Has x w → formOf (bare x) ≡ formOf w
   unfolding formOf

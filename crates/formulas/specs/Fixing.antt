@@ -8,7 +8,7 @@ use lib.ListN.{getD}
 use lib.Ieee.{Float, eq, le}
 use Rattle.floats.specs.Num.{choose, gt, ge, 0f, isFinite}
 use Rattle.tolerances.specs.Tol.{at}
-use Rattle.definition.specs.Model.{Model, isIntDomain, isMip, isInt}
+use Rattle.definition.specs.Model.{Model, isIntDomain}
 use Rattle.definition.specs.Work.{Work, fixed}
 use Rattle.definition.specs.Dual.{mayFall, mayRise}
 
@@ -21,14 +21,6 @@ mip mode = not (eqb mode 0)
 pub int-domain-of : (M : Model) (v : ℕ) → intDomain (getD (M .domain) v 0) ≡ isIntDomain M v
 unfolding intDomain isIntDomain
 int-domain-of M v = refl
-
-pub mip-of : (M : Model) → mip (M .mode) ≡ isMip M
-unfolding mip isMip
-mip-of M = refl
-
-pub int-of : (M : Model) (v : ℕ) → mip (M .mode) && intDomain (getD (M .domain) v 0) ≡ isInt M v
-unfolding mip intDomain isMip isIntDomain isInt
-int-of M v = refl
 
 -- the test of `blockTerms`
 unfoldable pub blocksAt : Float → Bool → Bool → Bool

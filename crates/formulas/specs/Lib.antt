@@ -3,7 +3,6 @@ pub mod Bare
 pub mod Reduce
 pub mod Terms
 pub mod Moves
-pub mod Folding
 pub mod Singles
 pub mod Implied
 pub mod Stays

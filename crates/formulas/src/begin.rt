@@ -1,6 +1,5 @@
-// The start of presolve: bounds that cross, and integer bounds rounded.
+// The start of presolve: integer bounds rounded.
 ghost use mathlib.Core.Path.{_≡_};
-ghost use Rattle.floats.specs.Num.{gt};
 ghost use Rattle.definition.specs.Begin as begin;
 
 // Only a finite bound is rounded.
@@ -20,11 +19,4 @@ pub fn rounded_upper(tol: f64, h: f64) -> f64
         return floats::floor(h + tol);
     }
     h
-}
-
-// Whether a variable's bounds leave it no value.
-pub fn crossed(l: f64, h: f64) -> bool
-    ensures { λ z. ⌜ z ≡ gt l h ⌝ }
-{
-    l > h
 }

@@ -20,7 +20,7 @@ use Rattle.formulas.specs.Bare.{bare, Has}
 use Rattle.view.specs.Shows.{StepShown}
 use Rattle.view.specs.Inv.{Inv}
 use Rattle.view.specs.Acts.{Tries}
-use Rattle.view.specs.Steps.{InvStep, goes, KeepsStep, went-is}
+use Rattle.view.specs.Steps.{InvStep, goes, went-is}
 use Rattle.view.specs.Known.{Spans}
 use Rattle.view.specs.Bounds.{went-by}
 use Rattle.readers.specs.Reading.{rowOf, Alive}
@@ -43,9 +43,6 @@ pub inv-bounds : {M : Model} {k : ℕ} (r : ℕ) (row : Row) (act : Activity) (t
 unfolding impliedBounds
 inv-bounds r row act [] w i = goes i
 inv-bounds {M} r row act (t ∷ ts) w i = inv-then (λ w1. impliedBounds M r row act ts w1) (inv-term r row act t w i) (λ u j. inv-bounds r row act ts u j)
-
-pub bounds-keeps : {P : Model → Type 0} {s : Shape} (r : ℕ) (act : Activity) → KeepsStep P s (λ M w. impliedBounds M r (rowOf w r) act (rowOf w r .terms) w)
-bounds-keeps r act = record { keeps = λ M k w p c i. inv-bounds r (rowOf w r) act (rowOf w r .terms) w i }
 
 -- ---- the rows and the count of waves are left
 pub leaves-bounds : {A : Type 0} {g : Work → A} → Blind g → (M : Model) (r : ℕ) (row : Row) (act : Activity) (ts : List Term) (w : Work) → Leaves g w (impliedBounds M r row act ts w)

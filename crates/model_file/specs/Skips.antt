@@ -47,14 +47,6 @@ pub record RowIs (t : ℕ) (s : List ℕ) (r : NumberRead) (g : Got Row) : Type 
   pub within : RowWithin r
 
 -- ---- one after the other
-module _ {A B C : Type 0} (f : A → Parser B) (h : B → C) where
-  pub map-then : {g : Got A} {a : A} {s : List ℕ} → g ≡ got a s → mapGot h (andThen g f) ≡ mapGot h (f a s)
-  map-then e = ap (mapGot h) (then-got f e)
-
-  pub map-refused : {g : Got A} {n : ℕ} → g ≡ refused n → mapGot h (andThen g f) ≡ refused n
-  unfolding mapGot
-  map-refused e = ap (mapGot h) (then-refused f e)
-
 -- a part that was taken: its value, and what is left
 pub record Taken {A B : Type 0} (g : Got A) (f : A → Parser B) (b : B) (r : List ℕ) : Type 0 where
   pub value : A

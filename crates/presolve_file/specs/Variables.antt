@@ -10,7 +10,7 @@ use Rattle.floats.specs.Num.{isFinite}
 use Rattle.tolerances.specs.Tol.{Term, zipTerms}
 use Rattle.definition.specs.Model.{Model, Row, Binding, Reduced, done, written, nnz, from, withAlive, withRange, withBinding, asWritten}
 use Rattle.definition.specs.Work.{Work, noTerm, noRow, dropRow}
-use Rattle.definition.specs.Folds.{swapRemove, foldTerm, foldStep, foldLoop, widened, relaxWith, relaxBinding, givenBack, holdRewrites, foldFixed}
+use Rattle.definition.specs.Folds.{swapRemove, foldTerm, foldStep, foldLoop, widen, relaxWith, relaxBinding, givenBack, holdRewrites, foldFixed}
 use Rattle.definition.specs.Rewrites.{Form, leForm, geForm, noForm, Rewrite, keeps, coeffOnly, coeffBound}
 use Rattle.definition.specs.Tighten.{Rewriting, setCoeff, reboundRow, rowAfter, rewriteStep, rewriteLoop}
 use Rattle.definition.specs.Emit.{insertTerm, sortTerms, Out, final}
@@ -95,8 +95,8 @@ module _ (M : Model) (n : ℕ) (above : 0 < n) (given-below : All (λ (v : ℕ).
   ranged : (row : Row) (b : Binding) (l h : Float) → Within row → Within (withBinding (some b) (withRange l h row))
   ranged row b l h q = record { live = q .live; gone = q .gone }
 
-  wider : (row : Row) (b : Binding) (kept old : Float) → Within row → Within (withBinding (some b) (widened kept old row))
-  unfolding widened
+  wider : (row : Row) (b : Binding) (kept old : Float) → Within row → Within (withBinding (some b) (widen kept old row))
+  unfolding widen
   wider row b kept old q = both (λ (x : Row). Within (withBinding (some b) x)) (isFinite (row .hi)) (ranged row b _ _ q) (ranged row b _ _ q)
 
   relax-with : (w : Work) (row : Row) (o : Option Binding) → Within row → Within (relaxWith M w row o)

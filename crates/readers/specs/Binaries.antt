@@ -21,10 +21,9 @@ use Rattle.view.specs.Call.{Call}
 use Rattle.view.specs.Shows.{Shows, Parts, BindingShown, unbound, isBound}
 use Rattle.view.specs.Inv.{Inv, AllIn, allIn[], allIn∷, BinariesIn, binariesIn[], binariesIn∷, hasNonzero, BindingIn, someIn}
 use Rattle.view.specs.Acts.{Ready}
-use Rattle.view.specs.Known.{Spans, Written, written-spans}
+use Rattle.view.specs.Known.{Written}
 use Rattle.readers.specs.Reading.{rowOf, Alive}
-use Rattle.readers.specs.RowAt.{or-true, span-fits, written-below, row-shown, row-inv}
-use Rattle.readers.specs.Coeffs.{ReadyTerm}
+use Rattle.readers.specs.RowAt.{or-true, span-fits, row-shown, row-inv}
 use Rattle.readers.specs.WrittenCoeffs.{ReadyWritten}
 
 -- ---- a variable of a row at work is one of the row as written
@@ -71,9 +70,6 @@ module _ {M : Model} {s : Shape} {f : Floats} {n : Numbers} {o : List ℕ} {w : 
   pub binary-written : hasTerm v (written M r) ≡ true
   binary-written = has-all v (row-inv c h p a u .allIn) binary-has
 
-  pub binary-below : v < s .vars
-  binary-below = written-below c p v binary-written
-
 -- ---- the state that `Ready` has
 module _ {s : Shape} {f : Floats} {n : Numbers} {ss is : List ℕ} {cs : List Float} {os : List ℕ} {bs : List Float} {r k : ℕ} (R : Ready (Written ss is cs os bs) s f n) (p : r < s .rows) (a : Alive n r) (l : k < getD (n .binaries) r 0) where
   from-is : from (R .model) r ≡ getD ss r 0
@@ -82,29 +78,6 @@ module _ {s : Shape} {f : Floats} {n : Numbers} {ss is : List ℕ} {cs : List Fl
 
   here : {v : ℕ} → v ≡ getD (n .binary) (getD ss r 0 + k) 0 → v ≡ getD (n .binary) (from (R .model) r + k) 0
   here e = e ∙ ap (λ (x : ℕ). getD (n .binary) (x + k) 0) (sym from-is)
-
-  pub ready-place : getD ss r 0 + k < s .terms
-  ready-place = omega (arith, from-is, binary-place (R .call) (R .shows) p a (R .inv) k _ l refl)
-
-  pub ready-below : {v : ℕ} → v ≡ getD (n .binary) (getD ss r 0 + k) 0 → v < s .vars
-  ready-below {v} e = binary-below (R .call) (R .shows) p a (R .inv) k v l (here e)
-
-  pub ready-term : {v : ℕ} → v ≡ getD (n .binary) (getD ss r 0 + k) 0 → ReadyTerm (Spans ss) s f n r v
-  ready-term {v} e =
-      record {
-        ready =
-            record {
-              model = R .model;
-              other = R .other;
-              left = R .left;
-              work = R .work;
-              known = written-spans (R .model) (R .known);
-              call = R .call;
-              shows = R .shows;
-              inv = R .inv;
-            };
-        has = binary-has (R .call) (R .shows) p a (R .inv) k v l (here e);
-      }
 
   pub ready-written : {v : ℕ} → v ≡ getD (n .binary) (getD ss r 0 + k) 0 → ReadyWritten is cs (getD ss r 0) v
   ready-written {v} e =

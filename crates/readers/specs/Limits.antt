@@ -1,6 +1,6 @@
 -- The four floats of an alive row.
 use Prim.Native.Nat.{ℕ, _<_}
-use mathlib.Core.Path.{_≡_, sym, _∙_}
+use mathlib.Core.Path.{_≡_, _∙_}
 use mathlib.Core.List.{List}
 use lib.ListN.{getD}
 use lib.Ieee.{Float, nan}
@@ -9,10 +9,9 @@ use Rattle.definition.specs.Work.{Work}
 use Rattle.space.specs.declared.Shape.{Shape}
 use Rattle.space.specs.Store.{Floats, Numbers}
 use Rattle.formulas.specs.declared.Limits.{Limits}
-use Rattle.formulas.specs.Bare.{Has, limitsOf, limits-of}
+use Rattle.formulas.specs.Bare.{Has}
 use Rattle.view.specs.Call.{Call}
 use Rattle.view.specs.Shows.{Shows}
-use Rattle.view.specs.Acts.{Reads}
 use Rattle.readers.specs.Reading.{rowOf, Alive}
 use Rattle.readers.specs.RowAt.{row-shown}
 
@@ -29,6 +28,3 @@ module _ {s : Shape} {f : Floats} (r : ℕ) (p : r < s .rows) where
             let x = row-shown c h p a in
             record { lo = e₁ ∙ x .lo; hi = e₂ ∙ x .hi; foldScale = e₃ ∙ x .foldScale; shift = e₄ ∙ x .shift };
       }
-
-pub limits-reads : {P : Model → Type 0} {s : Shape} {f : Floats} {n : Numbers} {r : ℕ} {x : Limits} → Alive n r → ReadsLimits s f r x → Reads P s f n x (λ M w. limitsOf (rowOf w r))
-limits-reads {n = n} a l = record { reads = λ M o k w p c h i. sym (limits-of (l .has M n o w c h a)) }

@@ -3,7 +3,6 @@ use Prim.Native.Nat.{ℕ, _<_}
 use native.Mathlib.Omega.{arith}
 use mathlib.Core.Path.{_≡_, ap}
 use mathlib.Core.List.{List}
-use lib.Ieee.{Float}
 use lib.ListN.{length, getD}
 use Rattle.definition.specs.Model.{Model, Row}
 use Rattle.definition.specs.Work.{Work, noRow}
@@ -12,8 +11,7 @@ use Rattle.space.specs.Store.{Floats, Numbers}
 use Rattle.view.specs.Call.{Call}
 use Rattle.view.specs.Shows.{Shows}
 use Rattle.view.specs.Inv.{Inv}
-use Rattle.view.specs.Acts.{Ready, Reads, Any}
-use Rattle.view.specs.Known.{Bounding, Known}
+use Rattle.view.specs.Acts.{Ready}
 
 -- a row of the state, and that the slices have it alive
 abbrev pub rowOf : Work → ℕ → Row
@@ -31,23 +29,9 @@ pub record ReadsM {A : Type 0} (P : Model → Type 0) (s : Shape) (z : A) (F : M
   pub reads : (M : Model) → P M → Call M s → F M ≡ z
 
 module _ {A : Type 0} {P : Model → Type 0} {s : Shape} {z : A} where
-  pub reads-floats : {f : Floats} {n : Numbers} {F : Model → Work → A} → ReadsF P s f z F → Reads P s f n z F
-  reads-floats {n = n} a = record { reads = λ M o k w p c h i. a .reads M n o k w p c h i }
-
-  pub reads-model : {f : Floats} {n : Numbers} {F : Model → A} → ReadsM P s z F → Reads P s f n z (λ M w. F M)
-  reads-model a = record { reads = λ M o k w p c h i. a .reads M p c }
-
--- where nothing is asked of the model, it holds whatever is known of it
-pub reads-any : {A : Type 0} {P : Model → Type 0} {s : Shape} {f : Floats} {n : Numbers} {z : A} {F : Model → Work → A} → ReadsF Any s f z F → Reads P s f n z F
-reads-any {n = n} a = record { reads = λ M o k w p c h i. a .reads M n o k w tt c h i }
 
 -- and under more than is asked
 module _ {A : Type 0} {P Q : Model → Type 0} {s : Shape} {z : A} (q : (M : Model) → Q M → P M) where
-  pub floats-under : {f : Floats} {F : Model → Work → A} → ReadsF P s f z F → ReadsF Q s f z F
-  floats-under a = record { reads = λ M n o k w p c h i. a .reads M n o k w (q M p) c h i }
-
-  pub model-under : {F : Model → A} → ReadsM P s z F → ReadsM Q s z F
-  model-under a = record { reads = λ M p c. a .reads M (q M p) c }
 
 -- what such a function asks: the floats show some state with some numbers
 pub record ReadyF (P : Model → Type 0) (s : Shape) (f : Floats) : Type 0 where
@@ -64,12 +48,6 @@ pub record Tells {A : Type 0} (P : Model → Type 0) (z : A) (F : Model → A) :
 -- ---- the domains alone
 pub record Domains (ds : List ℕ) (M : Model) : Type 0 where
   pub domain : M .domain ≡ ds
-
-pub bounding-domains : {ds js : List ℕ} (M : Model) → Bounding ds js M → Domains ds M
-bounding-domains M k = record { domain = k .domain }
-
-pub known-domains : {ds ss is : List ℕ} {cs : List Float} {os : List ℕ} {bs : List Float} {js : List ℕ} (M : Model) → Known ds ss is cs os bs js M → Domains ds M
-known-domains M k = record { domain = k .domain }
 
 -- a variable has its domain
 pub domain-in : {P : Model → Type 0} {s : Shape} {f : Floats} {n : Numbers} {ds : List ℕ} {v : ℕ} → Ready P s f n → ((M : Model) → P M → Domains ds M) → v < s .vars → v < length ds

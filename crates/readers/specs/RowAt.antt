@@ -156,9 +156,3 @@ module _ {P : Model → Type 0} {s : Shape} {f : Floats} {n : Numbers} {ss : Lis
 
   pub live-var : {j x : ℕ} → j < getD (n .len) r 0 → x ≡ getD (n .vars) (getD ss r 0 + j) 0 → x < s .vars
   live-var {j} l e = let t = row-ready .terms j (omega (arith, l, row-ready .len)) in omega (arith, e, t .var, t .below)
-
-  pub folded-place : {j : ℕ} → j < getD (n .folded) r 0 → getD ss (r + 1) 0 - 1 - j < s .terms
-  folded-place {j} l = row-ready .folded j (omega (arith, l, row-ready .folds)) .place
-
-  pub folded-var : {j x : ℕ} → j < getD (n .folded) r 0 → x ≡ getD (n .vars) (getD ss (r + 1) 0 - 1 - j) 0 → x < s .vars
-  folded-var {j} l e = let t = row-ready .folded j (omega (arith, l, row-ready .folds)) in omega (arith, e, t .var, t .below)

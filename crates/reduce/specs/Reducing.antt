@@ -152,18 +152,3 @@ pub record Settled (M : Model) (f : Floats) (n : Numbers) (x : Answer) : Type 0 
 
 pub settled-is : {M : Model} {f : Floats} {n : Numbers} {x : Answer} → Reduction M f n Next x → Settled M f n x
 settled-is (settled {w} {o} {k} h i) = record { work = w; other = o; left = k; is = refl; shows = h; inv = i }
-
-pub reduce-ready : {fs ls hs : List Float} {ds : List ℕ} {tol : Float} {ss is : List ℕ} {cs : List Float} {os : List ℕ} {bs : List Float} {j : ℕ} {s : Shape} {f : Floats} {n : Numbers}
-    → Given (Called fs ls hs ds tol ss is cs os bs j) s → Reduces (Called fs ls hs ds tol ss is cs os bs j) s f n Next → Ready (Written ss is cs os bs) s f n
-reduce-ready G r =
-    let g = settled-is (r .does (G .model) (G .known) (G .call)) in
-    record {
-      model = G .model;
-      other = g .other;
-      left = g .left;
-      work = g .work;
-      known = G .known .handed .written;
-      call = G .call;
-      shows = g .shows;
-      inv = g .inv;
-    }

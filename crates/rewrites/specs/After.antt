@@ -252,16 +252,3 @@ after-alive M g w x i t (coeffBound na bp d) = rebound-alive M g w x i (t .var) 
 
 -- of the states that the slices show: the term at place i is v's, with the coefficient a
 module _ {ss : List ℕ} {s : Shape} {f : Floats} {n : Numbers} {r i v : ℕ} {a : Float} (D : Placed ss s n r i v) (ea : a ≡ getD (f .coeffs) (getD ss r 0 + i) nan) where
-  term-is : {M : Model} {o : List ℕ} {w : Work} → Spans ss M → Call M s → Shows M f n o w → getD (rowOf w r .terms) i noTerm ≡ term v a
-  term-is {M} {o} {w} q c h =
-      let ev = sym (term-var D q c h) in
-      let ec : getD (rowOf w r .terms) i noTerm .coeff ≡ a = sym (row-shown c h (D .row) (D .alive) .terms i (term-in D c h) .coeff) ∙ ap (λ (m : ℕ). getD (f .coeffs) (m + i) nan) (from-is M r (q .starts)) ∙ sym ea in
-      λ m. term (ev m) (ec m)
-
-  pub after-stays : (g : Form) (x : Rewrite) → Nonzero x → Stays (Spans ss) s f n r (λ M w. rowAfter M g w (rowOf w r) i (term v a) x)
-  after-stays g x z =
-      record {
-        alive = λ M o k w q c h j. after-alive M g w (rowOf w r) i (term v a) x ∙ row-alive c h (D .row) (D .alive);
-        inv = λ M o k w q c h j.
-            subst (λ (t : Term). RowInv M r (rowAfter M g w (rowOf w r) i t x)) (term-is q c h) (after-inv g w (rowOf w r) i x (term-in D c h) z (row-inv c h (D .row) (D .alive) j));
-      }

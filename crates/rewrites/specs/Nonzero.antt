@@ -1,7 +1,7 @@
 -- A rewrite puts in no coefficient that is zero: it is put in only where it is above or below zero.
-use Prim.Native.Nat.{ℕ, zero, _+_, _*_, _<_}
+use Prim.Native.Nat.{ℕ, _+_, _*_, _<_}
 use native.Mathlib.Omega.{arith}
-use mathlib.Core.Path.{_≡_, refl, sym, subst}
+use mathlib.Core.Path.{_≡_, refl, sym}
 use mathlib.Core.Bool.{Bool, true, false, _&&_}
 use lib.Dec.{eqb}
 use lib.Ieee.{Float, nan, inf, fin, up, down, below, level, lt, eq, neg}
@@ -13,11 +13,7 @@ use Rattle.definition.specs.Model.{Model, Row}
 use Rattle.definition.specs.Work.{Work}
 use Rattle.definition.specs.Rewrites.{Form, leForm, geForm, noForm, Rewrite, keeps, shrinkLe, raiseLe, vacuousLe, shrinkGe, lowerGe, vacuousGe, vacuous}
 use Rattle.definition.specs.Tighten.{rewriteOf}
-use Rattle.space.specs.declared.Shape.{Shape}
-use Rattle.space.specs.Store.{Floats, Numbers}
-use Rattle.view.specs.Acts.{Ready, Reads}
 use Rattle.view.specs.Lists.{either}
-use Rattle.formulas.specs.Rewriting.{rewriteAt}
 use Rattle.folds.specs.Counting.{true-false}
 use Rattle.coeffs.specs.Keeping.{Nonzero, nonzeroKeeps, nonzeroCoeff, nonzeroBound}
 
@@ -113,14 +109,6 @@ module _ (M : Model) (nz : Float) where
     vacuous-nonzero geForm = either Nonzero _ (λ e. vacuous-ge) (λ e. nonzeroKeeps)
     vacuous-nonzero noForm = nonzeroKeeps
 
-    pub rewrite-at-nonzero : (bin : Bool) (f : Form) → Nonzero (rewriteAt M bin f nz row act a)
-    unfolding rewriteAt
-    rewrite-at-nonzero bin f = either Nonzero _ (λ e. vacuous-nonzero f) (λ e. nonzeroKeeps)
-
   pub rewrite-nonzero : (f : Form) (w : Work) (row : Row) (act : Activity) (t : Term) → Nonzero (rewriteOf M f nz w row act t)
   unfolding rewriteOf
   rewrite-nonzero f w row act t = either Nonzero _ (λ e. vacuous-nonzero row act (t .coeff) f) (λ e. nonzeroKeeps)
-
--- a rewrite that was read off a state
-pub reads-nonzero : {P : Model → Type 0} {s : Shape} {f : Floats} {n : Numbers} {z : Rewrite} {F : Model → Work → Rewrite} → ((M : Model) (w : Work) → Nonzero (F M w)) → Ready P s f n → Reads P s f n z F → Nonzero z
-reads-nonzero k R t = subst Nonzero (t .reads (R .model) (R .other) (R .left) (R .work) (R .known) (R .call) (R .shows) (R .inv)) (k (R .model) (R .work))

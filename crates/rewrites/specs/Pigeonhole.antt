@@ -3,7 +3,7 @@ use Prim.Native.Nat.{ℕ, suc, _+_, _≤_}
 use native.Mathlib.Omega.{arith}
 use mathlib.Core.Path.{_≡_, refl, ap, sym, _∙_}
 use mathlib.Core.Bool.{Bool, true, false, _||_}
-use mathlib.Core.List.{List, [], _∷_, _++_, map}
+use mathlib.Core.List.{List, [], _∷_, _++_}
 use lib.Dec.{eqb}
 use lib.ListN.{length, length-append}
 use borrow.Author.Tests.{eqb-true}
@@ -11,8 +11,7 @@ use Rattle.floats.specs.Num.{choose}
 use Rattle.tolerances.specs.Tol.{Term}
 use Rattle.definition.specs.Model.{Model, Row}
 use Rattle.definition.specs.Work.{has, hasTerm}
-use Rattle.view.specs.Inv.{Distinct, distinct[], distinct∷, AllIn, allIn[], allIn∷, hasNonzero, BinariesIn, binariesIn[], binariesIn∷}
-use Rattle.view.specs.Lists.{length-map}
+use Rattle.view.specs.Inv.{hasNonzero, BinariesIn, binariesIn[], binariesIn∷}
 use Rattle.readers.specs.Binaries.{nonzero-has}
 use Rattle.folds.specs.Counting.{true-false}
 use Rattle.coeffs.specs.Keeping.{differ-sym, binaries-snoc}
@@ -73,25 +72,6 @@ once-fits once[] among[] = omega arith
 once-fits {all} (once∷ {v} h o) (among∷ e a) = let z = once-fits o (among-without v h a) in omega (arith, z, without-shorter v all e)
 
 -- ---- a row's terms
-abbrev vars : List Term → List ℕ
-vars ts = map (λ (t : Term). t .var) ts
-
-has-vars : (v : ℕ) (ts : List Term) → has v (vars ts) ≡ hasTerm v ts
-unfolding has hasTerm
-has-vars v [] = refl
-has-vars v (t ∷ ts) = ap (λ (b : Bool). eqb (t .var) v || b) (has-vars v ts)
-
-distinct-once : {ts : List Term} → Distinct ts → Once (vars ts)
-distinct-once distinct[] = once[]
-distinct-once (distinct∷ {t} {ts} h d) = once∷ (has-vars (t .var) ts ∙ h) (distinct-once d)
-
-all-among : {all ts : List Term} → AllIn all ts → Among all (vars ts)
-all-among allIn[] = among[]
-all-among (allIn∷ h a) = among∷ h (all-among a)
-
-pub distinct-fits : {all ts : List Term} → Distinct ts → AllIn all ts → length ts ≤ length all
-distinct-fits {all} {ts} d a = let z = once-fits (distinct-once d) (all-among a) in omega (arith, z, length-map (λ (t : Term). t .var) ts)
-
 -- ---- its rewritten binaries
 binaries-once : {M : Model} {r : ℕ} {row : Row} {vs : List ℕ} → BinariesIn M r row vs → Once vs
 binaries-once binariesIn[] = once[]

@@ -12,7 +12,7 @@ use Rattle.space.specs.Store.{Floats, Numbers, put-alive, put-dropped}
 use Rattle.view.specs.Shows.{isOne}
 use Rattle.view.specs.Inv.{Inv}
 use Rattle.view.specs.Lists.{zero-is, count-mod}
-use Rattle.view.specs.Acts.{ActsN, Any, Keeps}
+use Rattle.view.specs.Acts.{ActsN, Any}
 use Rattle.view.specs.Rows.{OneRow, shows-row, inv-row}
 use Rattle.readers.specs.Reading.{rowOf}
 
@@ -71,9 +71,6 @@ unfolding dropRow
 inv-drop r x w i =
     let j = inv-row r (withAlive false x) w i (λ z. never z) in
     record { wlos = j .wlos; whis = j .whis; elos = j .elos; ehis = j .ehis; dirties = j .dirties; coeffDirties = j .coeffDirties; rowses = j .rowses; queue = j .queue; room = j .room; rows = j .rows }
-
-pub drop-keeps : {P : Model → Type 0} {s : Shape} (r : ℕ) → Keeps P s (λ M w. dropRow r (rowOf w r) w)
-drop-keeps r = record { keeps = λ M k w p c i. inv-drop r (rowOf w r) w i }
 
 -- the count of waves is another
 pub drop-passes : (r : ℕ) (x : Row) (w : Work) → dropRow r x w .counts .passes ≡ w .counts .passes

@@ -61,9 +61,6 @@ module _ {ds ss js : List ℕ} (M : Model) (k : Moves ds ss js M) where
   pub moves-bounding : Bounding ds js M
   moves-bounding = record { domain = k .domain; adj = k .adj }
 
-  pub moves-adj : Adj js M
-  moves-adj = k .adj
-
 pub known-moves : {ds ss is : List ℕ} {cs : List Float} {os : List ℕ} {bs : List Float} {js : List ℕ} (M : Model) → Known ds ss is cs os bs js M → Moves ds ss js M
 known-moves M k = record { domain = k .domain; starts = k .starts; adj = k .adj }
 

@@ -14,7 +14,7 @@ use Rattle.space.specs.Store.{Floats, Numbers}
 use Rattle.view.specs.Call.{Call}
 use Rattle.view.specs.Shows.{Shows}
 use Rattle.view.specs.Inv.{Inv}
-use Rattle.view.specs.Acts.{Ready, Acts, Tries}
+use Rattle.view.specs.Acts.{Ready, Tries}
 use Rattle.view.specs.Steps.{went-is}
 use Rattle.view.specs.Known.{Spans}
 use Rattle.readers.specs.Reading.{rowOf, Alive}
@@ -82,9 +82,6 @@ module _ {P : Model → Type 0} {s : Shape} {f₀ : Floats} {n₀ : Numbers} {f 
     abbrev here : RowAt ss s f n r (rowOf (R .work) r)
     here = row-still (R .known) (R .call) (R .shows) (R .inv)
 
-    pub alive-now : Alive n r
-    alive-now = still-alive (R .known) (R .call) (R .shows) (R .inv)
-
     module _ {i l : ℕ} (el : l ≡ getD (n₀ .len) r 0) (il : i < l) where
       term-here : TermAt s f n (getD ss r 0 + i) (getD (rowOf (R .work) r .terms) i noTerm)
       term-here = here .terms i (omega (arith, il, el, len-is (R .known) (R .call) (R .shows) (R .inv)))
@@ -105,8 +102,3 @@ module _ {P : Model → Type 0} {s : Shape} {f f₁ : Floats} {n n₁ : Numbers}
       let d = went-is (t .does (R .model) (R .other) (R .left) (R .work) (R .known) (R .call) (R .shows) (R .inv)) in
       let e = same-next (g (R .model) (R .work)) (d .is) in
       alive-of (R .call) (d .shows) p (ap (λ (l : List Row). getD l r noRow .alive) e ∙ row-alive (R .call) (R .shows) p a)
-
-  pub alive-after : {F : Model → Work → Work} → Acts P s f n f₁ n₁ F → ((M : Model) (w : Work) → F M w .rows ≡ w .rows) → r < s .rows → Alive n r → Alive n₁ r
-  alive-after t g p a =
-      alive-of (R .call) (t .does (R .model) (R .other) (R .left) (R .work) (R .known) (R .call) (R .shows) (R .inv)) p
-      (ap (λ (l : List Row). getD l r noRow .alive) (g (R .model) (R .work)) ∙ row-alive (R .call) (R .shows) p a)

@@ -17,7 +17,7 @@ use Rattle.view.specs.Call.{Call}
 use Rattle.view.specs.Shows.{Shows}
 use Rattle.view.specs.Inv.{Inv}
 use Rattle.view.specs.Acts.{Tries}
-use Rattle.view.specs.Steps.{InvStep, KeepsStep, tries-under}
+use Rattle.view.specs.Steps.{InvStep, tries-under}
 use Rattle.view.specs.Known.{Spans, Written, Known, known-spans, known-written}
 use Rattle.readers.specs.Reading.{rowOf, Alive}
 use Rattle.readers.specs.RowAt.{row-at}
@@ -71,9 +71,6 @@ unfolding byCount
 inv-count r row [] w i = inv-empty r row w i
 inv-count r row (t ∷ []) w i = inv-single r row t w i
 inv-count r row (t ∷ u ∷ ts) w i = inv-several r row w i
-
-pub count-keeps : {P : Model → Type 0} {s : Shape} (r : ℕ) → KeepsStep P s (λ M w. byCount M r (rowOf w r) (rowOf w r .terms) w)
-count-keeps r = record { keeps = λ M k w p c i. inv-count r (rowOf w r) (rowOf w r .terms) w i }
 
 pub passes-count : (M : Model) (r : ℕ) (row : Row) (ts : List Term) (w : Work) → Leaves passesOf w (byCount M r row ts w)
 unfolding byCount

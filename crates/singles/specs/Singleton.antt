@@ -24,7 +24,7 @@ use Rattle.view.specs.Shows.{Shows, StepShown}
 use Rattle.view.specs.Inv.{Inv}
 use Rattle.view.specs.Lists.{yes, no, either}
 use Rattle.view.specs.Acts.{Ready, Acts, ActsN, Any, Tries, Reads}
-use Rattle.view.specs.Steps.{InvStep, stops, goes, KeepsStep, went-is, tries-under}
+use Rattle.view.specs.Steps.{InvStep, stops, goes, went-is, tries-under}
 use Rattle.view.specs.Known.{Spans}
 use Rattle.view.specs.Adjacency.{Adj}
 use Rattle.view.specs.Bounds.{elo-is, ehi-is, went-by, stopped-by}
@@ -152,9 +152,6 @@ module _ (M : Model) (r v : ℕ) (row : Row) (a blo bhi : Float) (w : Work) wher
 pub bounds-same : (r v : ℕ) (a blo bhi : Float) (M : Model) (w : Work) → Same w (singletonBounds M r (rowOf w r) v a blo bhi w)
 bounds-same r v a blo bhi M w = leaves-bounds rows-blind M r v (rowOf w r) a blo bhi w
 
-pub bounds-keeps : {P : Model → Type 0} {s : Shape} (r v : ℕ) (a blo bhi : Float) → KeepsStep P s (λ M w. singletonBounds M r (rowOf w r) v a blo bhi w)
-bounds-keeps r v a blo bhi = record { keeps = λ M k w p c i. inv-bounds M r v (rowOf w r) a blo bhi w i }
-
 pub inv-single : {M : Model} {k : ℕ} (r : ℕ) (row : Row) (t : Term) (w : Work) → Inv M k w → InvStep M k (singletonRow M r row t w)
 inv-single {M} {k} r row t w i =
     rw (singleton-of M r row t w)
@@ -168,9 +165,6 @@ passes-single M r row t w =
     (same-then (λ w1. next (singletonDrop M r row (t .var) (t .coeff) (lowerSide row (t .coeff)) (upperSide row (t .coeff)) w1))
     (leaves-bounds passes-blind M r (t .var) row (t .coeff) (lowerSide row (t .coeff)) (upperSide row (t .coeff)) w)
     (λ u. same (passes-single-drop M r (t .var) row (t .coeff) (lowerSide row (t .coeff)) (upperSide row (t .coeff)) u)))
-
-pub single-keeps : {P : Model → Type 0} {s : Shape} (r : ℕ) → KeepsStep P s (λ M w. singletonRow M r (rowOf w r) (getD (rowOf w r .terms) 0 noTerm) w)
-single-keeps r = record { keeps = λ M k w p c i. inv-single r (rowOf w r) (getD (rowOf w r .terms) 0 noTerm) w i }
 
 -- ---- singleton_row
 module _ {P : Model → Type 0} {s : Shape} {f : Floats} {n : Numbers} {ss : List ℕ} {r : ℕ} (R : Ready P s f n) (q : (M : Model) → P M → Spans ss M) (p : r < s .rows) (al : Alive n r) (one : getD (n .len) r 0 ≡ 1) where

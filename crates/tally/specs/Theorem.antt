@@ -1,5 +1,5 @@
 -- Of an accepted call no count reaches 2 ^ 64, so a count that is kept modulo 2 ^ 64 is the definition's.
-use Prim.Native.Nat.{ℕ, _+_, _%_, _^_, _≤_, _<_}
+use Prim.Native.Nat.{_+_, _≤_, _<_}
 use native.Mathlib.Omega.{arith}
 use native.Mathlib.Decide.{decLt}
 use mathlib.Core.Path.{_≡_, sym, subst}
@@ -10,7 +10,7 @@ use Rattle.definition.specs.Model.{Model, upto, nnz, Reduced, Answer, infeasibl
 use Rattle.definition.specs.Presolve.{presolve}
 use Rattle.space.specs.declared.Shape.{Shape}
 use Rattle.view.specs.Call.{Call}
-use Rattle.view.specs.Shows.{Tally, Counted}
+use Rattle.view.specs.Shows.{Tally}
 use Rattle.tally.specs.Tallied.{AtMost}
 use Rattle.tally.specs.Rows.{AllShort}
 use Rattle.tally.specs.Whole.{inAll, AnswerAtMost, gaveUp, found, whole}
@@ -65,16 +65,3 @@ pub record Exact (t : Tally) (c : Counts) : Type 0 where
   pub fixed : getD (t .fixed) 0 0 ≡ c .varsFixed
   pub rewrote : getD (t .rewrote) 0 0 ≡ c .coeffsTightened
   pub passes : getD (t .passes) 0 0 ≡ c .passes
-
-small : {x k : ℕ} → x ≡ k % 2 ^ 64 → k < 18446744073709551616 → x ≡ k
-small e h = omega arith
-
-pub counts-exact : {t : Tally} {c : Counts} → Counted t c → CountsFit c → Exact t c
-counts-exact h f =
-    record {
-      dropped = small (h .dropped) (f .dropped);
-      tightened = small (h .tightened) (f .tightened);
-      fixed = small (h .fixed) (f .fixed);
-      rewrote = small (h .rewrote) (f .rewrote);
-      passes = h .passes;
-    }

@@ -4,7 +4,7 @@ use mathlib.Core.Path.{_≡_}
 use mathlib.Core.List.{List}
 use lib.Ieee.{Float}
 use Rattle.definition.specs.Model.{Model}
-use Rattle.view.specs.Known.{Spans, Written, Known}
+use Rattle.view.specs.Known.{Spans, Written}
 use Rattle.readers.specs.Reading.{Domains}
 use Rattle.coeffs.specs.Eligible.{Binaries}
 
@@ -15,9 +15,6 @@ pub record Tightening (ds ss is : List ℕ) (cs : List Float) (os : List ℕ) (b
   pub coeff : M .coeff ≡ cs
   pub cmp : M .cmp ≡ os
   pub rhs : M .rhs ≡ bs
-
-pub known-tightening : {ds ss is : List ℕ} {cs : List Float} {os : List ℕ} {bs : List Float} {js : List ℕ} (M : Model) → Known ds ss is cs os bs js M → Tightening ds ss is cs os bs M
-known-tightening M k = record { domain = k .domain; starts = k .starts; index = k .index; coeff = k .coeff; cmp = k .cmp; rhs = k .rhs }
 
 module _ {ds ss is : List ℕ} {cs : List Float} {os : List ℕ} {bs : List Float} (M : Model) (k : Tightening ds ss is cs os bs M) where
   pub tightening-spans : Spans ss M

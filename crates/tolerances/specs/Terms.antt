@@ -8,7 +8,7 @@ use lib.ListN.{length}
 use lib.Ieee.{Float}
 use Rattle.floats.specs.Num.{choose}
 use Rattle.cdouble.specs.declared.CDouble.{CDouble}
-use Rattle.tolerances.specs.Tol.{Term, slackMin, slackMax, excursion, impliedFrom, implied, impliedSlack, trivialVerdict, saysTrue, violated, violation, rowStart, rowTerm, rowSlack, slackViolates, slackViolation}
+use Rattle.tolerances.specs.Tol.{Term, slackMin, slackMax, excursion, impliedFrom, impliedSlack, trivialVerdict, saysTrue, violated, violation, rowStart, rowTerm, rowSlack, slackViolates, slackViolation}
 
 -- the loop over the terms, from a sum so far
 unfoldable pub rowFrom : (ℕ → Float) → CDouble × Float → List Term → CDouble × Float
@@ -24,7 +24,7 @@ pub slack-by-terms : (x : ℕ → Float) (b : Float) (ts : List Term) → implie
 slack-by-terms x b ts = made ∙ ap rowSlack (row-from x (rowStart b) ts)
   where
     made : impliedSlack x b ts ≡ rowSlack (impliedFrom x (rowStart b .0) (rowStart b .1) ts)
-    made = unfold impliedSlack implied rowStart rowSlack in refl
+    made = unfold impliedSlack rowStart rowSlack in refl
 
 pub violated-by-slack : (tol : Float) (op : ℕ) (ts : List Term) (b : Float) (x : ℕ → Float) → violated tol op ts b x ≡ (not (saysTrue (trivialVerdict tol op (length ts) b)) && slackViolates tol op (impliedSlack x b ts))
 unfolding violated slackViolates

@@ -71,9 +71,6 @@ module _ {P : Model → Type 0} {s : Shape} where
   pub of-numbers : {f : Floats} {n n′ : Numbers} {F : Model → Work → Work} → ActsN P s n n′ F → Acts P s f n f n′ F
   of-numbers {f} a = record { does = λ M o k w p c h i. a .does M f o k w p c h i }
 
-  pub any : {n n′ : Numbers} {F : Model → Work → Work} → ActsN Any s n n′ F → ActsN P s n n′ F
-  any a = record { does = λ M f o k w p c h i. a .does M f o k w tt c h i }
-
   pub ready-any : {n : Numbers} → ReadyN P s n → ReadyN Any s n
   ready-any R =
       record {

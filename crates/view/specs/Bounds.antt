@@ -152,9 +152,6 @@ inv-tighten v w i =
     inv-mark-var v (countTightened w)
     (record { wlos = i .wlos; whis = i .whis; elos = i .elos; ehis = i .ehis; dirties = i .dirties; coeffDirties = i .coeffDirties; rowses = i .rowses; queue = i .queue; room = i .room; rows = i .rows })
 
-pub tighten-keeps : {P : Model → Type 0} {s : Shape} (v : ℕ) → Keeps P s (λ M. markTightened M v)
-tighten-keeps v = record { keeps = λ M k w p c i. inv-tighten v w i }
-
 -- ---- a bound as the slices have it is the state's
 module _ {M : Model} {f : Floats} {n : Numbers} {o : List ℕ} {w : Work} (v : ℕ) {x : Float} (h : Shows M f n o w) where
   pub wlo-is : x ≡ getD (f .wlo) v nan → x ≡ at (w .wlo) v

@@ -34,12 +34,6 @@ pub record Known (ds ss is : List ℕ) (cs : List Float) (os : List ℕ) (bs : L
   pub adj : Adjacency M js
 
 module _ {domain starts index : List ℕ} {coeff : List Float} {cmp : List ℕ} {rhs : List Float} {adj : List ℕ} (M : Model) (k : Known domain starts index coeff cmp rhs adj M) where
-  pub known-adj : Adjacency M adj
-  known-adj = k .adj
-
-  pub known-bounding : Bounding domain adj M
-  known-bounding = record { domain = k .domain; adj = k .adj }
-
   pub known-spans : Spans starts M
   known-spans = record { starts = k .starts }
 

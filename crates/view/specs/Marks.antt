@@ -64,9 +64,6 @@ module _ {M : Model} {k : ℕ} where
 pub mark-row-keeps : {P : Model → Type 0} {s : Shape} (r : ℕ) → Keeps P s (λ M. markRow r)
 mark-row-keeps r = record { keeps = λ M k w p c i. inv-mark-row r w i }
 
-pub mark-var-keeps : {P : Model → Type 0} {s : Shape} (v : ℕ) → Keeps P s (λ M. markVar M v)
-mark-var-keeps v = record { keeps = λ M k w p c i. inv-mark-var v w i }
-
 -- a row's flag, in the blocks and in the state
 pub flag-of : {M : Model} {f : Floats} {n : Numbers} {r k : ℕ} {o : List ℕ} {w : Work} → Shows M f n o w → Inv M k w → r < length (M .rhs) → getD (w .dirty) r true ≡ isOne (getD (n .dirty) r 0)
 flag-of {n = n} {r = r} {w = w} h i p =

@@ -12,7 +12,7 @@ use Rattle.space.specs.Store.{Floats, Numbers}
 use Rattle.view.specs.Call.{Call}
 use Rattle.view.specs.Shows.{Shows, StepShown, stopped, went}
 use Rattle.view.specs.Inv.{Inv}
-use Rattle.view.specs.Acts.{Ready, Acts, Tries, Reads, Keeps, ActsN}
+use Rattle.view.specs.Acts.{Ready, Acts, Tries}
 
 -- the invariant, of a step that goes on
 pub data InvStep (M : Model) (k : ℕ) : Step → Type 0 where
@@ -67,10 +67,6 @@ module _ {P : Model → Type 0} {s : Shape} {f f₁ : Floats} {n n₁ : Numbers}
       halted : (G : Model → Work → Step) (M : Model) (o : List ℕ) {y : Step} → StepShown M f₁ n₁ o Stop y → StepShown M f₁ n₁ o Stop (y >>= λ w1. G M w1)
       halted G M o (stopped k) = stopped k
 
--- a step that never stops
-pub tries-acts : {P : Model → Type 0} {s : Shape} {f f₁ : Floats} {n n₁ : Numbers} {A : Model → Work → Work} → Acts P s f n f₁ n₁ A → Tries P s f n f₁ n₁ Next (λ M w. next (A M w))
-tries-acts a = record { does = λ M o j w p c h i. went (a .does M o j w p c h i) }
-
 pub keeps-then : {P : Model → Type 0} {s : Shape} {F G : Model → Work → Step} → KeepsStep P s F → KeepsStep P s G → KeepsStep P s (λ M w. F M w >>= λ w1. G M w1)
 keeps-then {P} {s} {F} {G} a b = record { keeps = λ M k w p c i. go M k p c (a .keeps M k w p c i) }
   where
@@ -78,22 +74,13 @@ keeps-then {P} {s} {F} {G} a b = record { keeps = λ M k w p c i. go M k p c (a 
     go M k p c stops = stops
     go M k p c (goes {w} i) = b .keeps M k w p c i
 
-pub keeps-next : {P : Model → Type 0} {s : Shape} {A : Model → Work → Work} → Keeps P s A → KeepsStep P s (λ M w. next (A M w))
-keeps-next a = record { keeps = λ M k w p c i. goes (a .keeps M k w p c i) }
-
 -- ---- a contract that asks for P holds where Q, which says more, is known
 module _ {P Q : Model → Type 0} {s : Shape} (q : (M : Model) → Q M → P M) where
   pub acts-under : {f f′ : Floats} {n n′ : Numbers} {F : Model → Work → Work} → Acts P s f n f′ n′ F → Acts Q s f n f′ n′ F
   acts-under a = record { does = λ M o k w p c h i. a .does M o k w (q M p) c h i }
 
-  pub numbers-under : {n n′ : Numbers} {F : Model → Work → Work} → ActsN P s n n′ F → ActsN Q s n n′ F
-  numbers-under a = record { does = λ M f o k w p c h i. a .does M f o k w (q M p) c h i }
-
   pub tries-under : {f f′ : Floats} {n n′ : Numbers} {z : code.Step} {F : Model → Work → Step} → Tries P s f n f′ n′ z F → Tries Q s f n f′ n′ z F
   tries-under a = record { does = λ M o k w p c h i. a .does M o k w (q M p) c h i }
-
-  pub reads-under : {A : Type 0} {f : Floats} {n : Numbers} {z : A} {F : Model → Work → A} → Reads P s f n z F → Reads Q s f n z F
-  reads-under a = record { reads = λ M o k w p c h i. a .reads M o k w (q M p) c h i }
 
   pub ready-under : {f : Floats} {n : Numbers} → Ready Q s f n → Ready P s f n
   ready-under r =

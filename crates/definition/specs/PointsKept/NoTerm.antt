@@ -9,12 +9,12 @@ use lib.Dec.{T}
 use lib.IntN.{ℤ, pos, _+ℤ_, _-ℤ_}
 use lib.ListN.{length}
 use lib.Ieee.{Float, eq}
-use Rattle.floats.specs.Num.{0f, isFinite}
+use Rattle.floats.specs.Num.{0f, isFinite, abs}
 use Rattle.floats.specs.Zed.{P, N, A, ext, add-parts, sub-parts}
 use Rattle.floats.specs.Points.{int, Whole, Is}
 use Rattle.floats.specs.WholeRounding.{Tol}
 use Rattle.cdouble.specs.Double.{from, value}
-use Rattle.tolerances.specs.Tol.{Term, outside, slackMin, slackMax, rowTolerance, trivialVerdict, saysTrue, violated, at, implied, impliedSlack}
+use Rattle.tolerances.specs.Tol.{Term, outside, slackMin, slackMax, rowTolerance, trivialVerdict, saysTrue, violated, at, impliedFrom, impliedSlack}
 use Rattle.tolerances.specs.Budget.{row-tol}
 use Rattle.definition.specs.Model.{Model, opOf, rhsOf, written, Row}
 use Rattle.definition.specs.Work.{Work, Step, fixed, dropRow}
@@ -68,8 +68,8 @@ module _ {M : Model} {w : Work} {r : ℕ} {row : Row} (σ : AtWork M w r row) (e
   short : length TS ≤ 256
   short = omega (arith, written-length M (σ .pure) r (σ .range), σ .pure .farm .terms r (σ .range))
 
-  slack-is : Slack (length (M .lower)) (fixedValue w) X vals sizes (int B -ℤ dot X TS) (0 + length TS) (implied (fixedValue w) B TS)
-  unfolding implied from
+  slack-is : Slack (length (M .lower)) (fixedValue w) X vals sizes (int B -ℤ dot X TS) (0 + length TS) (impliedFrom (fixedValue w) (from B) (abs B) TS)
+  unfolding from
   slack-is =
       let b = σ .pure .farm .rhs r (σ .range) in
       let m = mag-abs b in

@@ -13,7 +13,7 @@ use Rattle.tolerances.specs.Tol.{Term, zipTerms}
 use Rattle.definition.specs.declared.Activity.{Activity}
 use Rattle.definition.specs.Model.{Model, from, upto, nnz, written, Binding, Row, withTouched, withTerms, withRange, withBinding, asWritten}
 use Rattle.definition.specs.Work.{Work, noTerm}
-use Rattle.definition.specs.Folds.{swapRemove, foldTerm, foldStep, foldLoop, widened, relaxWith, relaxBinding, givenBack, holdRewrites, foldFixed}
+use Rattle.definition.specs.Folds.{swapRemove, foldTerm, foldStep, foldLoop, widen, relaxWith, relaxBinding, givenBack, holdRewrites, foldFixed}
 use Rattle.definition.specs.Rewrites.{Form, leForm, geForm, noForm, formOf, Rewrite, keeps, coeffOnly, coeffBound, shrinkLe, raiseLe, vacuousLe, shrinkGe, lowerGe, vacuousGe, vacuous}
 use Rattle.definition.specs.Tighten.{Rewriting as State, setCoeff, rewriteOf, reboundRow, rowAfter, rewriteStep, rewriteLoop}
 use Rattle.definition.specs.RowsKept.Statements.{Spans}
@@ -107,8 +107,8 @@ module _ (M : Model) {r : ℕ} {Q : Row → Type 0} (K : Folding M r Q) where
   unfolding givenBack asWritten
   back-kept w = loop-kept (nnz M r) w (0, asWritten M r) (record { within = λ S. omega (arith, written-length M S r); holds = K .as-written })
 
-  widened-kept : (row : Row) (b c : Binding) (kept old : Float) → row .binding ≡ some b → Q row → Q (withBinding (some c) (widened kept old row))
-  unfolding widened
+  widened-kept : (row : Row) (b c : Binding) (kept old : Float) → row .binding ≡ some b → Q row → Q (withBinding (some c) (widen kept old row))
+  unfolding widen
   widened-kept row b c kept old e q = both (λ (x : Row). Q (withBinding (some c) x)) (isFinite (row .hi)) (K .relaxes row b c _ _ e q) (K .relaxes row b c _ _ e q)
 
   relax-kept : (w : Work) (row : Row) (o : Option Binding) → row .binding ≡ o → Q row → Q (relaxWith M w row o)

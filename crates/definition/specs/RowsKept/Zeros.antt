@@ -18,7 +18,7 @@ use Rattle.definition.specs.declared.Counts.{Counts}
 use Rattle.definition.specs.Params.{maxWaves}
 use Rattle.definition.specs.Model.{Model, nnz, Binding, Row, asWritten}
 use Rattle.definition.specs.Work.{Work, withMarks, withRow, Step, stop, next, _>>=_, noRow, noTerm, has, dropRow}
-use Rattle.definition.specs.Folds.{swapRemove, foldTerm, foldStep, foldLoop, widened, relaxWith, relaxBinding, givenBack, holdRewrites, foldFixed}
+use Rattle.definition.specs.Folds.{swapRemove, foldTerm, foldStep, foldLoop, widen, relaxWith, relaxBinding, givenBack, holdRewrites, foldFixed}
 use Rattle.definition.specs.Rewrites.{Form, keeps, vacuous}
 use Rattle.definition.specs.Tighten.{Rewriting as State, setCoeff, binary, rewriteOf, rewriteLoop, tightenRow}
 use Rattle.definition.specs.Begin.{rowsAre, readFrom}
@@ -84,7 +84,7 @@ module _ (M : Model) where
   back-nonzero r w = loop-past (nnz M r) w (0, asWritten M r) (record { enough = omega (arith, written-short M r); nonzero = λ j k m. absurd (omega arith) })
 
   relax-nonzero : (w : Work) (row : Row) (o : Option Binding) → NonZero row → NonZero (relaxWith M w row o)
-  unfolding relaxWith widened
+  unfolding relaxWith widen
   relax-nonzero w row none q = q
   relax-nonzero w row (some b) q =
       both NonZero _ (record { terms = both (λ (x : Row). (j : ℕ) → j < length (x .terms) → eq (getD (x .terms) j noTerm .coeff) 0f ≡ false) _ (q .terms) (q .terms) }) q
