@@ -4,7 +4,7 @@ use native.Mathlib.Omega.{arith}
 use mathlib.Core.Path.{_≡_, refl, ap, sym, _∙_, subst}
 use mathlib.Core.Logic.{_↔_}
 use mathlib.Core.Bool.{Bool, true, false}
-use mathlib.Core.List.{[]}
+use mathlib.Core.List.{[], List·Memᴰ}
 use mathlib.Core.Option.{Option, none, some}
 use lib.IntN.{ℤ}
 use lib.ListN.{length, take, replicate}
@@ -13,18 +13,20 @@ use Rattle.tolerances.specs.Tol.{at}
 use Rattle.definition.specs.declared.Counts.{Counts}
 use Rattle.definition.specs.Params.{params, maxWaves}
 use Rattle.definition.specs.Model as definition
-use Rattle.definition.specs.Model.{Model, isInt, Reduced}
+use Rattle.definition.specs.Model.{Model, isInt, Emit, Reduced}
 use Rattle.definition.specs.Presolve.{presolve}
 use Rattle.definition.specs.Refusal.{refusal}
 use Rattle.definition.specs.RowsKept.Statements.{Fate, entriesOf, occurs, countBelow, noEntry}
 use Rattle.definition.specs.RowsKept.Theorems as kept
-use Rattle.definition.specs.PointsKept.Statements.{Farm, Point, MeetsReduced, WholeReduced, Exact}
+use Rattle.definition.specs.PointsKept.Statements.{Shaped, Farm, Point, termsOf, MeetsReduced, WholeReduced, Exact}
 use Rattle.definition.specs.PointsKept.Theorem.{points-kept}
 use Rattle.definition.specs.PointsKept.Accepted.{accepted-shaped}
+use Rattle.emit.specs.Terms.{varsOf, coeffsOf}
 use Rattle.output.specs.Results.{Results, written}
 use Rattle.presolve.specs.declared.Answer.{Answer}
 use Rattle.presolve.specs.Promise.{Working, working, lengths, Outcome, refused, infeasible, presolved, answerIs, outcome, resultsAfter, workingAfter, Promise}
 use Rattle.presolve.specs.Fronts.{entriesFrom, entries-length, reducedIn, reduced-in}
+use Rattle.presolve.specs.RowTerms.{rowVars, rowCoeffs, all-member, row-vars, row-coeffs}
 
 -- ---- the three answers are three
 abbrev kind : Outcome → ℕ
@@ -133,19 +135,26 @@ module _ {M : Model} {b b′ : Results} {x x′ : Working} {z : Answer} (p : Pro
     found : Modelled table (presolve M) k n t q g
     found = presolved-by table (presolve M) k n t q g (sym (p .answer) ∙ e)
 
+    shaped : Shaped M
+    shaped = accepted-shaped M (lengths b x) (found .accepted)
+
     -- DEMAND 2: what stands in the used fronts of the result slices is the definition's answer
     abbrev pub model : Reduced
     model = reducedIn M b′ k n t q g
 
-    pub in-slices : presolve M ≡ definition.done model
+    -- the slices after the call, and the model in them, are those of the definition's answer
+    slices-are : b′ ≡ written (found .reduced) b
     unfolding resultsAfter
-    in-slices =
+    slices-are = p .results ∙ ap (λ (o : Option ℕ). resultsAfter o (presolve M) b) (found .accepted) ∙ ap (λ (y : definition.Answer). resultsAfter none y b) (found .is)
+
+    model-is : model ≡ found .reduced
+    model-is =
         let a = found .reduced in
-        let s = accepted-shaped M (lengths b x) (found .accepted) in
         let l = kept.bounds-lengths M a (found .is) in
-        let w : b′ ≡ written a b = p .results ∙ ap (λ (o : Option ℕ). resultsAfter o (presolve M) b) (found .accepted) ∙ ap (λ (y : definition.Answer). resultsAfter none y b) (found .is) in
-        let h = reduced-in M a b (l .0) (l .1 ∙ s .uppers) in
-        found .is ∙ ap definition.done (sym (ap (λ (c : Results). reducedIn M c k n t q g) w ∙ sym (ap (inSlices M (written a b) a) (found .values)) ∙ h))
+        ap (λ (c : Results). reducedIn M c k n t q g) slices-are ∙ sym (ap (inSlices M (written a b) a) (found .values)) ∙ reduced-in M a b (l .0) (l .1 ∙ shaped .uppers)
+
+    pub in-slices : presolve M ≡ definition.done model
+    in-slices = found .is ∙ ap definition.done (sym model-is)
 
     pub waves-run : M .params ≡ params → k .passes ≤ 30
     unfolding reducedIn
@@ -173,6 +182,18 @@ module _ {M : Model} {b b′ : Results} {x x′ : Working} {z : Answer} (p : Pro
     unfolding reducedIn
     rows-conserved = ap (λ (l : ℕ). l + k .rowsDropped) (sym (entries-length b′ n 0)) ∙ kept.conserved M model in-slices
 
+    -- the readers of an emitted row's terms return the definition's: `rowVars` and `rowCoeffs` are what emit's `row_vars` and `row_coeffs` promise
+    module _ (y : Emit) (m : List·Memᴰ y (entriesFrom b′ n 0)) where
+      inside : y .rewritten ≡ true → y .upto ≤ length (found .reduced .terms)
+      unfolding reducedIn
+      inside w = all-member (kept.spans-within M (found .reduced) (found .is)) y (subst (List·Memᴰ y) (ap (λ (R : Reduced). R .emitted) model-is) m) w .1
+
+      pub row-terms : (rowVars M b′ y ≡ varsOf (termsOf M model y)) × (rowCoeffs M b′ y ≡ coeffsOf (termsOf M model y))
+      row-terms = (
+        ap (λ (c : Results). rowVars M c y) slices-are ∙ row-vars M (found .reduced) y inside b (shaped .coeffs) ∙ ap (λ (R : Reduced). varsOf (termsOf M R y)) (sym model-is),
+        ap (λ (c : Results). rowCoeffs M c y) slices-are ∙ row-coeffs M (found .reduced) y inside b (shaped .coeffs) ∙ ap (λ (R : Reduced). coeffsOf (termsOf M R y)) (sym model-is),
+      )
+
     -- a variable that is not an integer one keeps its given bounds
     pub bounds-given : (v : ℕ) → isInt M v ≡ false → (at (take (length (M .lower)) (b′ .lower)) v ≡ at (M .lower) v) × (at (take (length (M .lower)) (b′ .upper)) v ≡ at (M .upper) v)
     unfolding reducedIn
@@ -182,4 +203,4 @@ module _ {M : Model} {b b′ : Results} {x x′ : Working} {z : Answer} (p : Pro
     pub same-points : M .params ≡ params → Farm M → M .mode ≡ 1 → k .coeffsTightened ≡ 0 → WholeReduced M model × ((y : ℕ → ℤ) → MeetsReduced M model y ↔ Point M y)
     unfolding reducedIn
     same-points s f one =
-        subst (Exact M) in-slices (points-kept M (record { shape = accepted-shaped M (lengths b x) (found .accepted); farm = f }) one s)
+        subst (Exact M) in-slices (points-kept M (record { shape = shaped; farm = f }) one s)
