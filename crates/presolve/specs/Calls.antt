@@ -16,9 +16,9 @@ use Rattle.presolve.specs.Promise.{Working, lengths, answerIs, outcome, 
 -- the shortest slices are such (definition, `shortest-enough`)
 pub twelve-calls : {c : Case} → List·Memᴰ c cases → {b b′ : Results} {x x′ : Working} {z : Answer} → Promise (c .model) b x z b′ x′
     → tooShort (c .model) (lengths b x) ≡ false → (answerIs z ≡ outcome none (c .answer)) × (b′ ≡ resultsAfter none (c .answer) b)
-twelve-calls {c} day {b} {x = x} p s =
-    let r = longer-accepted (c .model) (shortest (c .model)) (lengths b x) (case-accepted day) s in
-    let a = case-answered day in (
+twelve-calls {c} one {b} {x = x} p s =
+    let r = longer-accepted (c .model) (shortest (c .model)) (lengths b x) (case-accepted one) s in
+    let a = case-answered one in (
       p .answer ∙ ap (λ (o : Option ℕ). outcome o (presolve (c .model))) r ∙ ap (outcome none) a,
       p .results ∙ ap (λ (o : Option ℕ). resultsAfter o (presolve (c .model)) b) r ∙ ap (λ (y : definition.Answer). resultsAfter none y b) a,
     )

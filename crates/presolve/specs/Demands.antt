@@ -18,7 +18,7 @@ use Rattle.definition.specs.Presolve.{presolve}
 use Rattle.definition.specs.Refusal.{refusal}
 use Rattle.definition.specs.RowsKept.Statements.{Fate, entriesOf, occurs, countBelow, noEntry}
 use Rattle.definition.specs.RowsKept.Theorems as kept
-use Rattle.definition.specs.PointsKept.Statements.{Shaped, Farm, Point, termsOf, MeetsReduced, WholeReduced, Exact}
+use Rattle.definition.specs.PointsKept.Statements.{Shaped, WholeNumbers, Point, termsOf, MeetsReduced, WholeReduced, Exact}
 use Rattle.definition.specs.PointsKept.Theorem.{points-kept}
 use Rattle.definition.specs.PointsKept.Accepted.{accepted-shaped}
 use Rattle.emit.specs.Terms.{varsOf, coeffsOf}
@@ -125,10 +125,10 @@ module _ {M : Model} {b b′ : Results} {x x′ : Working} {z : Answer} (p : Pro
       omega (arith, l, y)
 
   -- ---- DEMAND 3, infeasible: on a farm model with dual fixing off and nothing rewritten there is no point
-  pub no-point : M .params ≡ params → Farm M → M .mode ≡ 1 → (k : Counts) → answerIs z ≡ infeasible k → k .coeffsTightened ≡ 0 → (y : ℕ → ℤ) → Point M y → ⊥
+  pub no-point : M .params ≡ params → WholeNumbers M → M .mode ≡ 1 → (k : Counts) → answerIs z ≡ infeasible k → k .coeffsTightened ≡ 0 → (y : ℕ → ℤ) → Point M y → ⊥
   no-point s f one k e =
       let r = infeasible-by table (presolve M) k (sym (p .answer) ∙ e) in
-      subst (Exact M) (r .1) (points-kept M (record { shape = accepted-shaped M (lengths b x) (r .0); farm = f }) one s)
+      subst (Exact M) (r .1) (points-kept M (record { shape = accepted-shaped M (lengths b x) (r .0); numbers = f }) one s)
 
   -- ---- a model
   module _ {k : Counts} {n t q : ℕ} {g : Bool} (e : answerIs z ≡ presolved k n t q g) where
@@ -200,7 +200,7 @@ module _ {M : Model} {b b′ : Results} {x x′ : Working} {z : Answer} (p : Pro
     bounds-given = kept.bounds-given M model in-slices
 
     -- on a farm model with dual fixing off and nothing rewritten the reduced model is of whole numbers, and has exactly the input's points
-    pub same-points : M .params ≡ params → Farm M → M .mode ≡ 1 → k .coeffsTightened ≡ 0 → WholeReduced M model × ((y : ℕ → ℤ) → MeetsReduced M model y ↔ Point M y)
+    pub same-points : M .params ≡ params → WholeNumbers M → M .mode ≡ 1 → k .coeffsTightened ≡ 0 → WholeReduced M model × ((y : ℕ → ℤ) → MeetsReduced M model y ↔ Point M y)
     unfolding reducedIn
     same-points s f one =
-        subst (Exact M) in-slices (points-kept M (record { shape = shaped; farm = f }) one s)
+        subst (Exact M) in-slices (points-kept M (record { shape = shaped; numbers = f }) one s)

@@ -109,7 +109,7 @@ module _ (M : Model) (w : Work) where
   module _ (pure : PureInteger M) (g : (v : ℕ) → v < length (M .lower) → IntervalAt (w .wlo) (w .whi) (w .elo) (w .ehi) v) where
     pub bound-tol : (v : ℕ) (b : Bool) → v < length (M .lower) → Tol (boundTol M w v b)
     unfolding boundTol boundTolerance
-    bound-tol v b h = both Tol _ (row-tol (tolerance (pure .farm .feas)) (abs-bounded (wide b)) (abs-pos (wide b .whole))) (tolerance (pure .farm .feas))
+    bound-tol v b h = both Tol _ (row-tol (tolerance (pure .numbers .feas)) (abs-bounded (wide b)) (abs-pos (wide b .whole))) (tolerance (pure .numbers .feas))
       where
         wide : (b : Bool) → Bounded (2 ^ 45) (choose b (at (w .ehi) v) (at (w .elo) v))
         wide b = both (Bounded (2 ^ 45)) b (record { whole = g v h .hi .whole; small = omega (arith, g v h .hi .small) }) (record { whole = g v h .lo .whole; small = omega (arith, g v h .lo .small) })

@@ -79,7 +79,7 @@ unfolding twice from upto nnz rhsOf le lt eq fits ofBits round
 twice-pure op e =
     record {
       shape = accepted-shaped (twice op) (shortest (twice op)) e;
-      farm = record {
+      numbers = record {
         integral = only (λ v. (getD (twice op .domain) v 0 ≡ 0) ⊎ (getD (twice op .domain) v 0 ≡ 2)) (inl refl);
         lower = only (λ v. Bounded 1048576 (at (twice op .lower) v)) (bounded 0 1048576 (omega arith) (omega arith));
         upper = only (λ v. Bounded 1048576 (at (twice op .upper) v)) (bounded 10 1048576 (omega arith) (omega arith));

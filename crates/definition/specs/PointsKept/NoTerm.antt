@@ -66,12 +66,12 @@ module _ {M : Model} {w : Work} {r : ℕ} {row : Row} (σ : AtWork M w r row) (e
 
   -- the implied slack is the row's side, which nothing is left of
   short : length TS ≤ 256
-  short = omega (arith, written-length M (σ .pure) r (σ .range), σ .pure .farm .terms r (σ .range))
+  short = omega (arith, written-length M (σ .pure) r (σ .range), σ .pure .numbers .terms r (σ .range))
 
   slack-is : Slack (length (M .lower)) (fixedValue w) X vals sizes (int B -ℤ dot X TS) (0 + length TS) (impliedFrom (fixedValue w) (from B) (abs B) TS)
   unfolding from
   slack-is =
-      let b = σ .pure .farm .rhs r (σ .range) in
+      let b = σ .pure .numbers .rhs r (σ .range) in
       let m = mag-abs b in
       implied-from (length (M .lower)) (fixedValue w) X vals sizes TS 0 (int B) _ _ (omega (arith, short)) (written-ok M (σ .pure) r (σ .range))
       (record { d = record { hi = record { whole = b .whole; is = refl }; lo = zero-is }; small = omega (arith, b .small); mag = record { whole = m .whole; nonneg = m .nonneg; small = omega (arith, m .small) } })
@@ -85,7 +85,7 @@ module _ {M : Model} {w : Work} {r : ℕ} {row : Row} (σ : AtWork M w r row) (e
 
   tol-is : Tol (rowTolerance (M .feas) (impliedSlack (fixedValue w) B TS .1))
   unfolding impliedSlack
-  tol-is = row-tol (tolerance (σ .pure .farm .feas)) (record { whole = slack-is .mag .whole; small = omega (arith, slack-is .mag .small, short) }) (slack-is .mag .nonneg)
+  tol-is = row-tol (tolerance (σ .pure .numbers .feas)) (record { whole = slack-is .mag .whole; small = omega (arith, slack-is .mag .small, short) }) (slack-is .mag .nonneg)
 
   -- the two tests of `row_violation`
   abbrev triv : Bool
@@ -109,8 +109,8 @@ module _ {M : Model} {w : Work} {r : ℕ} {row : Row} (σ : AtWork M w r row) (e
       cases false q n = inr n
 
       empty : (ts : List Term) → T (saysTrue (trivialVerdict (M .feas) (opOf M r) (length ts) B)) → (x : ℕ → ℤ) → Sided (opOf M r) (dot x ts) (int B)
-      empty [] t x = verdict-true M (σ .pure) (opOf M r) B (σ .pure .farm .rhs r (σ .range)) t
-      empty (u ∷ ts) t x = absurd (verdict-none M (σ .pure) (opOf M r) (length ts) B (σ .pure .farm .rhs r (σ .range) .whole) t)
+      empty [] t x = verdict-true M (σ .pure) (opOf M r) B (σ .pure .numbers .rhs r (σ .range)) t
+      empty (u ∷ ts) t x = absurd (verdict-none M (σ .pure) (opOf M r) (length ts) B (σ .pure .numbers .rhs r (σ .range) .whole) t)
 
       met : (x : ℕ → ℤ) → Within (length (M .lower)) (w .elo) (w .ehi) x → T triv ⊎ T (not out) → RowSided M r x
       met x h (inl t) = empty TS t x

@@ -70,7 +70,7 @@ module _ {M : Model} {w0 : Work} {r : ℕ} {row : Row} (σ : AtWork M w0 r row) 
     dropped-ok p =
         let m = finite-mag p in
         let b : Bounded (2 ^ 45) (finiteMag row _) = record { whole = m .whole; small = m .small } in
-        laws .rest (row-tol (tolerance (σ .pure .farm .feas)) b (m .nonneg)) (laws .roundoff b (m .nonneg))
+        laws .rest (row-tol (tolerance (σ .pure .numbers .feas)) b (m .nonneg)) (laws .roundoff b (m .nonneg))
 
     -- ---- a side of the row, d, that bounds the variable at one end, or leaves it free there
     record End (free? : Bool) (d : Float) : Type 0 where

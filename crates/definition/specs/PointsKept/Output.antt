@@ -168,7 +168,7 @@ module _ (M : Model) (pure : PureInteger M) where
             uppers = g .good .eh-length;
             lower = λ v h. g .good .interval v h .lo;
             upper = λ v h. g .good .interval v h .hi;
-            rhs = λ e i. let q = g .only e i in subst (λ (f : Emit). Whole (f .rhs)) (sym (q .2)) (pure .farm .rhs (q .0) (q .1) .whole);
+            rhs = λ e i. let q = g .only e i in subst (λ (f : Emit). Whole (f .rhs)) (sym (q .2)) (pure .numbers .rhs (q .0) (q .1) .whole);
             coeff = λ e i. coeffs e (g .only e i);
           }
 

@@ -77,20 +77,20 @@ module _ (M : Model) (pure : PureInteger M) where
   lower-is : {l : Float} {z : ℤ} → Is l z → A z ≤ 2 ^ 20 → Is (roundedLower (M .intTol) l) z
   unfolding roundedLower
   lower-is {l} {z} p h =
-      let c = laws .round-lower (record { whole = p .whole; small = subst (λ (u : ℤ). A u ≤ 2 ^ 20) (sym (p .is)) h }) (tolerance (pure .farm .intTol)) in
+      let c = laws .round-lower (record { whole = p .whole; small = subst (λ (u : ℤ). A u ≤ 2 ^ 20) (sym (p .is)) h }) (tolerance (pure .numbers .intTol)) in
       if-true (λ (y : Float). Is y z) (isFinite l) l (finite l (p .whole)) (record { whole = c .whole; is = c .is ∙ p .is })
 
   upper-is : {l : Float} {z : ℤ} → Is l z → A z ≤ 2 ^ 20 → Is (roundedUpper (M .intTol) l) z
   unfolding roundedUpper
   upper-is {l} {z} p h =
-      let c = laws .round-upper (record { whole = p .whole; small = subst (λ (u : ℤ). A u ≤ 2 ^ 20) (sym (p .is)) h }) (tolerance (pure .farm .intTol)) in
+      let c = laws .round-upper (record { whole = p .whole; small = subst (λ (u : ℤ). A u ≤ 2 ^ 20) (sym (p .is)) h }) (tolerance (pure .numbers .intTol)) in
       if-true (λ (y : Float). Is y z) (isFinite l) l (finite l (p .whole)) (record { whole = c .whole; is = c .is ∙ p .is })
 
   round-var : (v : ℕ) (ls hs : List Float) → v < length (M .lower) → Rounded ls hs → RoundedB (roundVar M v (bounds ls hs))
   unfolding roundVar
   round-var v ls hs h r =
-      let l = lower-is (r .lo v h) (pure .farm .lower v h .small) in
-      let u = upper-is (r .hi v h) (pure .farm .upper v h .small) in
+      let l = lower-is (r .lo v h) (pure .numbers .lower v h .small) in
+      let u = upper-is (r .hi v h) (pure .numbers .upper v h .small) in
       let sl = set-one v ls (roundedLower (M .intTol) (at ls v)) (subst (λ (n : ℕ). v < n) (sym (r .lo-length)) h) in
       let su = set-one v hs (roundedUpper (M .intTol) (at hs v)) (subst (λ (n : ℕ). v < n) (sym (r .hi-length)) h) in
       both RoundedB (isInt M v)
@@ -168,11 +168,11 @@ module _ (M : Model) (pure : PureInteger M) where
           eh-length = r .hi-length;
           rows-length = g .len;
           interval = λ v h. record {
-            lo = record { whole = r .lo v h .whole; small = subst (λ (z : ℤ). A z ≤ 2 ^ 20) (sym (r .lo v h .is)) (pure .farm .lower v h .small) };
-            hi = record { whole = r .hi v h .whole; small = subst (λ (z : ℤ). A z ≤ 2 ^ 20) (sym (r .hi v h .is)) (pure .farm .upper v h .small) };
+            lo = record { whole = r .lo v h .whole; small = subst (λ (z : ℤ). A z ≤ 2 ^ 20) (sym (r .lo v h .is)) (pure .numbers .lower v h .small) };
+            hi = record { whole = r .hi v h .whole; small = subst (λ (z : ℤ). A z ≤ 2 ^ 20) (sym (r .hi v h .is)) (pure .numbers .upper v h .small) };
             wlo = record { whole = r .lo v h .whole; is = refl };
             whi = record { whole = r .hi v h .whole; is = refl };
-            order = omega (arith, of-nlt (pure .farm .upper v h .whole) (pure .farm .lower v h .whole) (u v h), eq-parts (r .lo v h .is), eq-parts (r .hi v h .is));
+            order = omega (arith, of-nlt (pure .numbers .upper v h .whole) (pure .numbers .lower v h .whole) (u v h), eq-parts (r .lo v h .is), eq-parts (r .hi v h .is));
           };
           keeps = λ x p v h. (subst (λ (z : ℤ). z ⊑ x v) (sym (r .lo v h .is)) (p .bounds v h .0), subst (λ (z : ℤ). x v ⊑ z) (sym (r .hi v h .is)) (p .bounds v h .1));
           shrinks = λ x k v h. (subst (λ (z : ℤ). z ⊑ x v) (r .lo v h .is) (k v h .0), subst (λ (z : ℤ). x v ⊑ z) (r .hi v h .is) (k v h .1));

@@ -40,7 +40,7 @@ pub record Shaped (M : Model) : Type 0 where
   pub op : (r : ℕ) → r < length (M .rhs) → opOf M r ≤ 2
 
 -- 01's "farm model": variables Integer (0) or Boolean (2), and these numbers. `Bounded k x`: x is a finite whole number of magnitude at most k
-pub record Farm (M : Model) : Type 0 where
+pub record WholeNumbers (M : Model) : Type 0 where
   pub integral : (v : ℕ) → v < length (M .lower) → (getD (M .domain) v 0 ≡ 0) ⊎ (getD (M .domain) v 0 ≡ 2)
   pub lower : (v : ℕ) → v < length (M .lower) → Bounded 1048576 (at (M .lower) v)
   pub upper : (v : ℕ) → v < length (M .lower) → Bounded 1048576 (at (M .upper) v)
@@ -54,7 +54,7 @@ pub record Farm (M : Model) : Type 0 where
 -- such a model of an accepted call
 pub record PureInteger (M : Model) : Type 0 where
   pub shape : Shaped M
-  pub farm : Farm M
+  pub numbers : WholeNumbers M
 
 -- ---- the points: x gives each variable a signed whole number
 -- the sum of a list of terms

@@ -57,10 +57,10 @@ module _ (M : Model) (pure : PureInteger M) (one : M .mode ≡ 1) (margin : NonN
   unfolding presolve
   points-kept-by =
       taking (Exact M) (crossed (M .lower) (M .upper))
-      (λ t z x p. crossed-ok (M .lower) (M .upper) x (pure .shape .uppers) (λ v h. record { lo = pure .farm .lower v h .whole; hi = pure .farm .upper v h .whole; above = p .bounds v h .0; below = p .bounds v h .1 }) t)
+      (λ t z x p. crossed-ok (M .lower) (M .upper) x (pure .shape .uppers) (λ v h. record { lo = pure .numbers .lower v h .whole; hi = pure .numbers .upper v h .whole; above = p .bounds v h .0; below = p .bounds v h .1 }) t)
       (λ t. rounded-ok (roundFrom M (length (M .lower)) 0 (bounds (M .lower) (M .upper)))
       (round-from M pure (length (M .lower)) 0 (bounds (M .lower) (M .upper)) (omega arith)
-      (record { lo-length = refl; hi-length = pure .shape .uppers; lo = λ v h. record { whole = pure .farm .lower v h .whole; is = refl }; hi = λ v h. record { whole = pure .farm .upper v h .whole; is = refl } }))
+      (record { lo-length = refl; hi-length = pure .shape .uppers; lo = λ v h. record { whole = pure .numbers .lower v h .whole; is = refl }; hi = λ v h. record { whole = pure .numbers .upper v h .whole; is = refl } }))
       (λ v h. uncrossed (M .lower) (M .upper) v (pure .shape .uppers) t h))
 
 margin-ok : NonNeg (params .redundantMargin)

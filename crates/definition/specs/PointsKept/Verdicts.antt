@@ -114,7 +114,7 @@ module _ (M : Model) (pure : PureInteger M) where
       go : (i : Bool) → T (not i) → T (saysTrue (choose i (some true) (some (not (outside b (slackMin op) (slackMax op) (rowTolerance (M .feas) (abs b))))))) → Sided op (pos 0) (int b)
       go true n t = absurd n
       go false n t =
-          let k = inside-ok op b _ (int b) (record { whole = h .whole; is = refl }) (row-tol (tolerance (pure .farm .feas)) (abs-bounded w) (abs-pos (h .whole))) t in
+          let k = inside-ok op b _ (int b) (record { whole = h .whole; is = refl }) (row-tol (tolerance (pure .numbers .feas)) (abs-bounded w) (abs-pos (h .whole))) t in
           record { below = k .0; above = k .1 }
 
   verdict-false : (op : ℕ) (b : Float) → Bounded (2 ^ 40) b → trivialVerdict (M .feas) op 0 b ≡ some false → Sided op (pos 0) (int b) → ⊥
@@ -131,7 +131,7 @@ module _ (M : Model) (pure : PureInteger M) where
       go : (i : Bool) → T (not i) → T (outside b (slackMin op) (slackMax op) (rowTolerance (M .feas) (abs b))) ⊎ T (not (outside b (slackMin op) (slackMax op) (rowTolerance (M .feas) (abs b))))
           → choose i (some true) (some (not (outside b (slackMin op) (slackMax op) (rowTolerance (M .feas) (abs b))))) ≡ some false → ⊥
       go true n d e = n
-      go false n (inl o) e = outside-ok op b _ (int b) (record { whole = h .whole; is = refl }) (row-tol (tolerance (pure .farm .feas)) (abs-bounded w) (abs-pos (h .whole))) o (m .below) (m .above)
+      go false n (inl o) e = outside-ok op b _ (int b) (record { whole = h .whole; is = refl }) (row-tol (tolerance (pure .numbers .feas)) (abs-bounded w) (abs-pos (h .whole))) o (m .below) (m .above)
       go false n (inr o) e = not-some (outside b (slackMin op) (slackMax op) (rowTolerance (M .feas) (abs b))) o e
 
   -- where there are terms, or an infinite right side, a verdict is not "false", and it is "true" only in the second case
@@ -156,14 +156,14 @@ module _ (M : Model) (pure : PureInteger M) where
   trivial-met r hr t x = go (nnz M r) refl t
     where
       go : (n : ℕ) → nnz M r ≡ n → T (saysTrue (trivialVerdict (M .feas) (opOf M r) (nnz M r) (rhsOf M r))) → RowSided M r x
-      go zero e t = subst (λ (z : ℤ). Sided (opOf M r) z (int (rhsOf M r))) (sym (nil x r e)) (verdict-true (opOf M r) (rhsOf M r) (pure .farm .rhs r hr) (subst (λ (n : ℕ). T (saysTrue (trivialVerdict (M .feas) (opOf M r) n (rhsOf M r)))) e t))
-      go (suc n) e t = absurd (verdict-none (opOf M r) n (rhsOf M r) (pure .farm .rhs r hr .whole) (subst (λ (n : ℕ). T (saysTrue (trivialVerdict (M .feas) (opOf M r) n (rhsOf M r)))) e t))
+      go zero e t = subst (λ (z : ℤ). Sided (opOf M r) z (int (rhsOf M r))) (sym (nil x r e)) (verdict-true (opOf M r) (rhsOf M r) (pure .numbers .rhs r hr) (subst (λ (n : ℕ). T (saysTrue (trivialVerdict (M .feas) (opOf M r) n (rhsOf M r)))) e t))
+      go (suc n) e t = absurd (verdict-none (opOf M r) n (rhsOf M r) (pure .numbers .rhs r hr .whole) (subst (λ (n : ℕ). T (saysTrue (trivialVerdict (M .feas) (opOf M r) n (rhsOf M r)))) e t))
 
   -- one that fails is met by none
   pub false-row : (r : ℕ) → r < length (M .rhs) → (n : ℕ) → nnz M r ≡ n → trivialVerdict (M .feas) (opOf M r) n (rhsOf M r) ≡ some false → NoPoint M
   unfolding trivialVerdict choose
-  false-row r h zero e q x p = verdict-false (opOf M r) (rhsOf M r) (pure .farm .rhs r h) q (subst (λ (z : ℤ). Sided (opOf M r) z (int (rhsOf M r))) (nil x r e) (asks M pure x p r h))
-  false-row r h (suc n) e q x p = go (isInfinite (rhsOf M r)) (eqb (suc n) 0) (not (outside (rhsOf M r) (slackMin (opOf M r)) (slackMax (opOf M r)) (rowTolerance (M .feas) (abs (rhsOf M r))))) (not-infinite (rhsOf M r) (pure .farm .rhs r h .whole)) (eqb·suc-zero n) q
+  false-row r h zero e q x p = verdict-false (opOf M r) (rhsOf M r) (pure .numbers .rhs r h) q (subst (λ (z : ℤ). Sided (opOf M r) z (int (rhsOf M r))) (nil x r e) (asks M pure x p r h))
+  false-row r h (suc n) e q x p = go (isInfinite (rhsOf M r)) (eqb (suc n) 0) (not (outside (rhsOf M r) (slackMin (opOf M r)) (slackMax (opOf M r)) (rowTolerance (M .feas) (abs (rhsOf M r))))) (not-infinite (rhsOf M r) (pure .numbers .rhs r h .whole)) (eqb·suc-zero n) q
     where
       go : (i z q : Bool) → T (not i) → z ≡ false → choose i (some true) (choose z (some q) none) ≡ some false → ⊥
       go true z q n e t = n

@@ -26,7 +26,7 @@ use Rattle.definition.specs.PointsKept.Activity.{ActivityOf, corner-mag,
 
 pub int-var : (M : Model) → PureInteger M → (v : ℕ) → v < length (M .lower) → T (isInt M v)
 unfolding isInt isMip isIntDomain
-int-var M pure v h = all-true (not (eqb (M .mode) 0)) (not (eqb (getD (M .domain) v 0) 1)) (mip (pure .farm .mode)) (whole (pure .farm .integral v h))
+int-var M pure v h = all-true (not (eqb (M .mode) 0)) (not (eqb (getD (M .domain) v 0) 1)) (mip (pure .numbers .mode)) (whole (pure .numbers .integral v h))
   where
     mip : (M .mode ≡ 1) ⊎ (M .mode ≡ 2) → T (not (eqb (M .mode) 0))
     mip (inl e) = subst (λ (m : ℕ). T (not (eqb m 0))) (sym e) tt
@@ -79,14 +79,14 @@ module _ {M : Model} {w : Work} {r : ℕ} {row : Row} (σ : AtWork M w r row) wh
   unfolding rhsMag
   rhs-mag {x} p =
       let s = sum (2 ^ 40 + σ .ok .f * 2 ^ 35) (σ .ok .f * 2 ^ 35) p (record { whole = σ .ok .shift; is = refl }) (σ .ok .b-small) (σ .ok .shift-small) (omega (arith, σ .ok .count)) in
-      mag-abs (record { whole = s .whole; small = subst (λ (z : ℤ). A z ≤ 2 ^ 40) (sym (s .is ∙ σ .ok .total)) (σ .pure .farm .rhs r (σ .range) .small) })
+      mag-abs (record { whole = s .whole; small = subst (λ (z : ℤ). A z ≤ 2 ^ 40) (sym (s .is ∙ σ .ok .total)) (σ .pure .numbers .rhs r (σ .range) .small) })
 
   pub scale-mag : Mag (σ .ok .f * 2 ^ 35) (row .foldScale)
   scale-mag = record { whole = σ .ok .scale; nonneg = σ .ok .scale-pos; small = σ .ok .scale-small }
 
   pub budget-tol : {m : Float} {k : ℕ} → Mag k m → k ≤ 2 ^ 45 → Tol (budget M r m)
   unfolding budget
-  budget-tol m h = laws .budget (nnz M r) (σ .pure .farm .terms r (σ .range)) (tolerance (σ .pure .farm .feas)) (record { whole = m .whole; small = omega (arith, m .small) }) (m .nonneg)
+  budget-tol m h = laws .budget (nnz M r) (σ .pure .numbers .terms r (σ .range)) (tolerance (σ .pure .numbers .feas)) (record { whole = m .whole; small = omega (arith, m .small) }) (m .nonneg)
 
   pub hi-side : (act : Activity) → T (hiSide row act) → T (isFinite (row .hi))
   unfolding hiSide

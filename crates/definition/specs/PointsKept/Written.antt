@@ -92,7 +92,7 @@ module _ (M : Model) (pure : PureInteger M) (r : ℕ) (h : r < length (M .rhs)) 
       one : (i : ℕ) → i < nnz M r → TermOk (length (M .lower)) (getD (written M r) i noTerm)
       one i k =
           let e = written-get i k in
-          subst (TermOk (length (M .lower))) (sym e) (record { coeff = pure .farm .coeff (from M r + i) (omega (arith, fits)); var = pure .shape .index (from M r + i) (omega (arith, fits)) })
+          subst (TermOk (length (M .lower))) (sym e) (record { coeff = pure .numbers .coeff (from M r + i) (omega (arith, fits)); var = pure .shape .index (from M r + i) (omega (arith, fits)) })
 
   nnz-is : nnz M r ≡ upto M r - from M r
   unfolding nnz
@@ -137,14 +137,14 @@ module _ (M : Model) (pure : PureInteger M) (r : ℕ) (h : r < length (M .rhs)) 
 pub as-written-ok : (M : Model) (pure : PureInteger M) (el eh : List Float) (r : ℕ) → r < length (M .rhs) → RowOk M el eh r (asWritten M r)
 unfolding asWritten
 as-written-ok M pure el eh r h =
-    let b = pure .farm .rhs r h in
+    let b = pure .numbers .rhs r h in
     let z = zero-is in
     record {
       b = int (rhsOf M r);
       f = 0;
       terms = written-ok M pure r h;
       distinct = written-distinct M pure r h;
-      count = omega (arith, written-length M pure r h, pure .farm .terms r h);
+      count = omega (arith, written-length M pure r h, pure .numbers .terms r h);
       lo = record { free = λ t. chosen (eqb (opOf M r) 1) -∞f (rhsOf M r) t; shut = λ t. subst (λ (x : Float). Is x (int (rhsOf M r))) (sym (unchosen (eqb (opOf M r) 1) -∞f (rhsOf M r) t)) (record { whole = b .whole; is = refl }) };
       hi = record { free = λ t. chosen (eqb (opOf M r) 2) ∞f (rhsOf M r) t; shut = λ t. subst (λ (x : Float). Is x (int (rhsOf M r))) (sym (unchosen (eqb (opOf M r) 2) ∞f (rhsOf M r) t)) (record { whole = b .whole; is = refl }) };
       b-small = omega (arith, b .small);
