@@ -1,3 +1,4 @@
+-- The start of presolve on the slices: bounds that cross, rounding, the rows of each variable, reading rows.
 pub mod Crossing
 pub mod Rounding
 pub mod Reading

@@ -7,7 +7,7 @@ use lib.Dec.{eqb}
 use lib.ListN.{getD, take, drop}
 use lib.Ieee.{Float}
 use Rattle.floats.specs.Num.{choose, _⊕_, _⊗_, gt, 0f, ∞f, -∞f, abs}
-use Rattle.tolerances.specs.Tol.{Term, term, at, zipTerms}
+use Rattle.tolerances.specs.Tol.{Term, at, zipTerms}
 use Rattle.definition.specs.declared.Counts.{Counts}
 use Rattle.definition.specs.Params.{Params}
 

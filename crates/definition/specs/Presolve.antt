@@ -1,5 +1,4 @@
 -- src/presolve/mod.rs: `presolve` over the call's numbers alone, and `reduced_model` above it.
-use mathlib.Core.Bool.{true}
 use mathlib.Core.List.{List, []}
 use mathlib.Core.Option.{Option, none, some}
 use lib.ListN.{length}

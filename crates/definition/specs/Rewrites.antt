@@ -1,5 +1,5 @@
 -- `tighten_binary_coeffs`, what a rewrite does to one term: a vacuous branch of a binary is made bound-tight (Savelsbergh). Functions of records alone.
-use Prim.Native.Nat.{ℕ, zero}
+use Prim.Native.Nat.{ℕ}
 use mathlib.Core.Bool.{not, _&&_}
 use lib.Dec.{eqb}
 use lib.Ieee.{Float, neg, lt}

@@ -1,6 +1,6 @@
 -- src/presolve/work.rs, `Work`: the state that the reductions change, a step that may find the model infeasible, and what is read off the state.
 use Prim.Native.Nat.{ℕ}
-use mathlib.Core.Bool.{Bool, true, false, _&&_, _||_}
+use mathlib.Core.Bool.{Bool, false, _&&_, _||_}
 use mathlib.Core.List.{List, [], _∷_}
 use mathlib.Core.Option.{none}
 use lib.Dec.{eqb}

@@ -2,7 +2,6 @@
 -- of two zeros the first stays, whatever their signs (9.6 has -0 below +0). What is finite is a number.
 use mathlib.Core.Path.{_≡_, refl, sym, ap, subst}
 use mathlib.Core.Logic.{_⊎_, inl, inr}
-use Prim.Native.Nat.{_+_}
 use native.Mathlib.Omega.{arith}
 use mathlib.Core.Bool.{Bool, true, false, not}
 use lib.Dec.{T}

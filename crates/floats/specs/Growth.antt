@@ -1,9 +1,9 @@
 -- LAWS OF ORDER that proofs cite by themselves: a sum with what is not negative does not fall, a difference does not rise, floor and ceil leave a whole number, a tolerance is below 1.
 use mathlib.Core.Path.{_≡_, refl, sym, ap, _∙_, subst}
 use mathlib.Core.Logic.{_⊎_, inl, inr}
-use Prim.Native.Nat.{_+_, _≤_}
+use Prim.Native.Nat.{_+_}
 use native.Mathlib.Omega.{arith}
-use mathlib.Core.Bool.{Bool, true, false, not, true≢false}
+use mathlib.Core.Bool.{Bool, true, false, true≢false}
 use lib.IntN.{ℤ, pos, _+ℤ_, _-ℤ_}
 use lib.Ieee.{Float, nan, inf, fin, isNan, neg, add, sub, lt, ofBits}
 use Rattle.floats.specs.Zed.{_⊑_, add-parts, sub-parts}

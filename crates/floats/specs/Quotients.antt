@@ -9,7 +9,7 @@ use mathlib.Core.Bool.{Bool, true, false, not}
 use lib.Dec.{T, leb, leb→le, nleb→lt, lit<, lit≤}
 use lib.Pow.{pow-pos}
 use lib.IntN.{ℤ, pos, negsuc, negℤ, _+ℤ_, _-ℤ_, _*ℤ_}
-use lib.Ieee.{Float, nan, inf, fin, neg, div, round, lt, le}
+use lib.Ieee.{Float, nan, inf, fin, neg, div, le}
 use Rattle.floats.specs.Zed.{P, N, A, _⊑_, _⊏_, side, P-neg, N-neg, add-parts, sub-parts}
 use Rattle.floats.specs.Value.{mags, units, size-of, Num}
 use Rattle.floats.specs.Product.{pq, nq, mul-parts}

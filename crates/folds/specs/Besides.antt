@@ -10,7 +10,7 @@ use lib.ListN.{length, getD, take, drop, length-append}
 use lib.Seq.{drop-cons, drop-length, ext-getD, getD-append-add}
 use lib.Ieee.{Float, nan}
 use Rattle.floats.specs.Num.{choose, _⊕_, _⊗_, 0f, abs}
-use Rattle.tolerances.specs.Tol.{Term, term, at}
+use Rattle.tolerances.specs.Tol.{Term, at}
 use Rattle.definition.specs.Model.{Model, from, upto, nnz, Row, Binding}
 use Rattle.definition.specs.Work.{Work, noTerm, has}
 use Rattle.definition.specs.Folds.{fixedBesidesFrom, fixedBesides}

@@ -3,13 +3,13 @@ use Prim.Native.Nat.{ℕ, suc, _+_, _-_, _≤_, _<_}
 use native.Mathlib.Omega.{arith}
 use mathlib.Core.Path.{_≡_, refl, ap, sym, _∙_}
 use mathlib.Core.Logic.{_≢_, _⊎_, inl, inr}
-use mathlib.Core.Option.{Option, none, some}
+use mathlib.Core.Option.{Option, some}
 use mathlib.Core.List.{List, [], _∷_, _++_}
 use lib.ListN.{length, getD, set, length-set, length-take, length-append, List·getD-append}
 use lib.Seq.{getD-set-same, getD-set-other, getD-take, getD-at}
 use lib.Ieee.{Float, nan}
 use Rattle.floats.specs.Num.{_⊕_, _⊖_, abs}
-use Rattle.tolerances.specs.Tol.{Term, term, at}
+use Rattle.tolerances.specs.Tol.{Term, term}
 use Rattle.definition.specs.Model.{Model, from, upto, nnz, Row, Binding, withTerms}
 use Rattle.definition.specs.Work.{Work, noTerm}
 use Rattle.definition.specs.Folds.{swapRemove}

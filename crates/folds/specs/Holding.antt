@@ -5,7 +5,7 @@ use mathlib.Core.Path.{_≡_, refl, ap, sym, _∙_, subst}
 use mathlib.Core.Bool.{Bool, true, false, not, _&&_}
 use mathlib.Core.List.{List}
 use mathlib.Core.Option.{Option, none, some}
-use lib.Dec.{ltb, T, lt→ltb, ltb→lt}
+use lib.Dec.{T, lt→ltb, ltb→lt}
 use lib.ListN.{length, getD}
 use lib.Ieee.{Float, nan}
 use Rattle.floats.specs.Num.{isFinite}

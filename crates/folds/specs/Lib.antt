@@ -1,3 +1,4 @@
+-- Folding on the slices: a row where it stands, what a step leaves apart from it, and the cycle of `fold_fixed` and `hold_rewrites`.
 pub mod Apart
 pub mod Sized
 pub mod Written

@@ -8,7 +8,7 @@ ghost use Rattle.folds.specs.Relaxing.{Widens};
 use crate::besides::fixed_besides;
 use space::Shape;
 
-// = widened
+// = widen
 fn widen(w: &mut [f64], s: Shape, r: usize, kept: f64, old: f64)
     requires { ⌜ (r < s .rows) × HoldsF s (now w) ⌝ }
     ensures { λ _. ⌜ Widens s r kept old (floatsOf s (now (w .entry))) (floatsOf s (now (w .exit))) ⌝ }

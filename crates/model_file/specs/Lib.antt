@@ -1,3 +1,4 @@
+-- The model file: its format as a definition, the encoder and the round trip, and what the reader does to the lent slices.
 pub mod Format
 pub mod Places
 pub mod Reading

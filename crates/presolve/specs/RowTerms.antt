@@ -15,7 +15,7 @@ use Rattle.tolerances.specs.Tol.{Term, zipTerms}
 use Rattle.definition.specs.Model.{Model, Emit, Reduced}
 use Rattle.definition.specs.RowsKept.Statements.{All, noOne, each}
 use Rattle.definition.specs.PointsKept.Statements.{termsOf}
-use Rattle.view.specs.Lists.{length-map, yes, no}
+use Rattle.view.specs.Lists.{length-map}
 use Rattle.emit.specs.Filling.{over}
 use Rattle.emit.specs.Terms.{varsOf, coeffsOf}
 use Rattle.output.specs.Results.{Results, written}

@@ -10,7 +10,6 @@ use Rattle.definition.specs.Model as definition
 use Rattle.definition.specs.Model.{Model, Reduced}
 use Rattle.definition.specs.Presolve.{presolve, reducedModel}
 use Rattle.definition.specs.Refusal.{refusal}
-use Rattle.view.specs.Lists.{no}
 use Rattle.output.specs.Results.{Results}
 use Rattle.presolve.specs.declared.Answer.{Answer}
 use Rattle.presolve.specs.declared.SecondAnswer as code

@@ -13,7 +13,7 @@ use lib.Seq.{drop-cons, getD-append-add}
 use lib.Ieee.{Float, nan}
 use borrow.Author.Tests.{eq-eqb, ne-eqb, lt-ltb, le-ltb}
 use Rattle.floats.specs.Num.{choose, 0f}
-use Rattle.tolerances.specs.Tol.{Term, term, at}
+use Rattle.tolerances.specs.Tol.{Term, at}
 use Rattle.definition.specs.Model.{Model, Row, coeffIn, orElse, coeffOf}
 use Rattle.definition.specs.Work.{Work, noTerm, hasTerm}
 use Rattle.space.specs.declared.Shape.{Shape}

@@ -8,7 +8,7 @@ use lib.ListN.{length, getD, take, drop, length-drop, length-take}
 use lib.Seq.{getD-drop, getD-take}
 use lib.Ieee.{Float, nan}
 use Rattle.floats.specs.Num.{0f}
-use Rattle.tolerances.specs.Tol.{Term, term, at, zipTerms}
+use Rattle.tolerances.specs.Tol.{Term, term, zipTerms}
 use Rattle.definition.specs.Model.{Model, from, nnz, written, coeffIn, orElse}
 use Rattle.definition.specs.Work.{noTerm, hasTerm}
 use Rattle.readers.specs.Coeffs.{drop-in, drop-rest, drop-here, drop-later}

@@ -1,3 +1,4 @@
+-- That no count reaches 2^64: what each step adds at most, and the whole.
 pub mod Tallied
 pub mod Bounds
 pub mod Rows

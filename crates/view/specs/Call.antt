@@ -1,5 +1,5 @@
 -- The call as the port's functions have it: an accepted model M, and its scalars s. What an accepted model is, fact by fact.
-use Prim.Native.Nat.{ℕ, suc, _-_, _≤_, _<_}
+use Prim.Native.Nat.{ℕ, suc, _≤_, _<_}
 use mathlib.Core.Path.{_≡_}
 use lib.ListN.{length, getD}
 use Rattle.definition.specs.Params.{params}

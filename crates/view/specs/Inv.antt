@@ -1,6 +1,6 @@
 -- What every state of an accepted model has, and every step keeps: lists of their lengths, a queue of row numbers with room for the rows that are not queued,
 -- and rows whose terms are the model's variables. k counts the wave's rows still to come.
-use Prim.Native.Nat.{ℕ, zero, suc, _+_, _≤_, _<_}
+use Prim.Native.Nat.{ℕ, suc, _+_, _≤_, _<_}
 use mathlib.Core.Path.{_≡_}
 use mathlib.Core.Bool.{Bool, true, false, not, _&&_, _||_}
 use mathlib.Core.List.{List, [], _∷_, _++_}

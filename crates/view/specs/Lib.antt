@@ -1,3 +1,4 @@
+-- What the working slices show of the definition's state, its invariant, and the form of the port's contracts.
 pub mod Call
 pub mod Shows
 pub mod Inv

@@ -1,3 +1,4 @@
+-- `implied_bounds` is impliedBounds, of the row that stands in the state.
 use Prim.Native.Nat.{_-_}
 use native.Mathlib.Omega.{arith}
 use mathlib.Core.Path.{_≡_, refl}

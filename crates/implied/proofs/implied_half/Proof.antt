@@ -1,3 +1,4 @@
+-- `implied_half` is a half of impliedTerm, by its side.
 use Rattle.implied.specs.Sides.{half-is}
 use borrow.Author.Needs.{needs}
 use Rattle.implied.proofs.implied_half.Statement.{statement}

@@ -1,3 +1,4 @@
+-- `implied_side` is a half of impliedTerm: implied, where the side is finite.
 use mathlib.Core.Path.{sym, _∙_}
 use Rattle.implied.specs.Sides.{side-skip, side-open, side-sum}
 use borrow.Author.Needs.{needs}

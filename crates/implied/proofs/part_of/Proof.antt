@@ -1,3 +1,4 @@
+-- `part_of`: the term's part at the corner that a half looks at.
 use mathlib.Core.Path.{sym}
 use Rattle.view.specs.Lists.{yes, no}
 use Rattle.implied.proofs.part_of.Statement.{statement}

@@ -1,3 +1,4 @@
+-- `side_of`: the side that a half looks at, and the term's part at its corner.
 use mathlib.Core.Path.{_∙_, sym}
 use Rattle.view.specs.Lists.{yes, no}
 use borrow.Author.Needs.{needs}

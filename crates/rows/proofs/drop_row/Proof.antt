@@ -1,3 +1,4 @@
+-- `drop_row` is dropRow, of the row that stands in the state.
 use Rattle.space.specs.Blocks.{alive-length, dropped-length}
 use Rattle.rows.specs.Drop.{drop-acts}
 use borrow.Author.Needs.{needs}

@@ -1,3 +1,4 @@
+-- `settle_alive` is settleAlive, of the row folded.
 use native.Mathlib.Omega.{arith}
 use Rattle.view.specs.Acts.{ready-after}
 use Rattle.folds.specs.Stands.{standing, turns-acts}

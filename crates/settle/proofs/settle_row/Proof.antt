@@ -1,3 +1,4 @@
+-- `settle_row` is settleRow.
 use Rattle.emit.specs.Judging.{written-gives, ready-trivial}
 use Rattle.settle.specs.Settling.{row-trivial, row-gone, row-live}
 use borrow.Author.Needs.{needs}

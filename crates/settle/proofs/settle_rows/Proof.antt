@@ -1,3 +1,4 @@
+-- `settle_rows` is settleFrom, of all rows.
 use Prim.Native.Nat.{_-_}
 use native.Mathlib.Omega.{arith}
 use mathlib.Core.Path.{_≡_, refl, _∙_}

@@ -1,3 +1,4 @@
+-- `emit_bounds` is emitBounds.
 use Rattle.bounds.specs.Moves.{emit-tighter, emit-same}
 use borrow.Author.Needs.{needs}
 use Rattle.bounds.proofs.bounds.emit_bounds.Statement.{statement}

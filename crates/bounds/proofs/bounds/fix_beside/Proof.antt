@@ -1,3 +1,4 @@
+-- `fix_beside` is fix; dual fixing's flags stay.
 use native.Mathlib.Omega.{arith}
 use Rattle.space.specs.Blocks.{fixed-length}
 use Rattle.bounds.specs.Flags.{flags-fixed}

@@ -1,3 +1,4 @@
+-- `is_int` is isInt.
 use Rattle.bounds.specs.Moves.{int-yes, int-no}
 use borrow.Author.Needs.{needs}
 use Rattle.bounds.proofs.bounds.is_int.Statement.{statement}

@@ -1,3 +1,4 @@
+-- `lower_int` is lowerInt.
 use Rattle.bounds.specs.Moves.{lower-int-leave, lower-int-stop, lower-int-tight}
 use borrow.Author.Needs.{needs}
 use Rattle.bounds.proofs.bounds.lower_int.Statement.{statement}

@@ -1,3 +1,4 @@
+-- `lower_real` is lowerReal.
 use Rattle.bounds.specs.Moves.{lower-real-leave, lower-real-stop, lower-real-tight}
 use borrow.Author.Needs.{needs}
 use Rattle.bounds.proofs.bounds.lower_real.Statement.{statement}

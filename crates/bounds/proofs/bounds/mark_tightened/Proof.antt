@@ -1,3 +1,4 @@
+-- `mark_tightened` is markTightened.
 use native.Mathlib.Omega.{arith}
 use Rattle.space.specs.Blocks.{tightened-length}
 use Rattle.view.specs.Acts.{ready-next}

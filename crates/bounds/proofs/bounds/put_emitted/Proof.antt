@@ -1,3 +1,4 @@
+-- `put_emitted`: the four bounds that emitBounds leaves.
 use Rattle.bounds.specs.Moves.{emits-four}
 use borrow.Author.Needs.{needs}
 use Rattle.bounds.proofs.bounds.put_emitted.Statement.{statement}

@@ -1,3 +1,4 @@
+-- `tighten_lower` is tightenLower.
 use native.Mathlib.Omega.{arith}
 use mathlib.Core.Path.{sym, _∙_}
 use Rattle.bounds.specs.Moves.{bounding-domain, lower-skip, lower-whole, lower-other}

@@ -1,3 +1,4 @@
+-- `tighten_upper` is tightenUpper.
 use native.Mathlib.Omega.{arith}
 use mathlib.Core.Path.{sym, _∙_}
 use Rattle.bounds.specs.Moves.{bounding-domain, upper-skip, upper-whole, upper-other}

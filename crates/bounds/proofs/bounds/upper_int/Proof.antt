@@ -1,3 +1,4 @@
+-- `upper_int` is upperInt.
 use Rattle.bounds.specs.Moves.{upper-int-leave, upper-int-stop, upper-int-tight}
 use borrow.Author.Needs.{needs}
 use Rattle.bounds.proofs.bounds.upper_int.Statement.{statement}

@@ -1,3 +1,4 @@
+-- `upper_real` is upperReal.
 use Rattle.bounds.specs.Moves.{upper-real-leave, upper-real-stop, upper-real-tight}
 use borrow.Author.Needs.{needs}
 use Rattle.bounds.proofs.bounds.upper_real.Statement.{statement}

@@ -1,3 +1,4 @@
+-- `mark_row` is markRow.
 use native.Mathlib.Omega.{arith}
 use Rattle.view.specs.Marks.{mark-room, mark-old, mark-new}
 use Rattle.bounds.specs.Flags.{flags-old, flags-new}

@@ -1,3 +1,4 @@
+-- `mark_rows` is markRow over the rows that stand in adj from place a up to e.
 use Prim.Native.Nat.{_-_}
 use native.Mathlib.Omega.{arith}
 use mathlib.Core.Path.{_≡_, _∙_, refl}

@@ -1,3 +1,4 @@
+-- `mark_var` is markVar.
 use native.Mathlib.Omega.{arith}
 use mathlib.Core.Path.{refl}
 use Rattle.view.specs.Acts.{ready-any}

@@ -1,3 +1,4 @@
+-- `fixed_besides` is fixedBesides, of the row's own binding.
 use Prim.Native.Nat.{_-_, _≤_}
 use native.Mathlib.Omega.{arith}
 use mathlib.Core.Path.{refl}

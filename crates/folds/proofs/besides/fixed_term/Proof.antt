@@ -1,3 +1,4 @@
+-- `fixed_term`: the folded term at place i, added where its variable is none of the k binaries from place a on.
 use Rattle.space.specs.Store.{floatsOf, numbersOf}
 use Rattle.folds.specs.Besides.{listed, besides-kept, besides-added}
 use borrow.Author.Needs.{needs}

@@ -1,3 +1,4 @@
+-- `has_among`: whether v is among the k binaries from place a on.
 use Prim.Native.Nat.{_-_, _≤_}
 use native.Mathlib.Omega.{arith}
 use mathlib.Core.Path.{_≡_, refl}

@@ -1,3 +1,4 @@
+-- `has_binary`: whether v is one of row r's rewritten binaries.
 use native.Mathlib.Omega.{arith}
 use mathlib.Core.Path.{refl}
 use Rattle.space.specs.Blocks.{binary-length}

@@ -1,3 +1,4 @@
+-- `fixed` is fixed.
 use Rattle.folds.specs.FoldStep.{fixed-yes, fixed-no}
 use borrow.Author.Needs.{needs}
 use Rattle.folds.proofs.folding.fixed.Statement.{statement}

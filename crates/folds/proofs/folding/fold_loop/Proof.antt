@@ -1,3 +1,4 @@
+-- `fold_loop` is foldLoop, over all terms.
 use native.Mathlib.Omega.{arith}
 use mathlib.Core.Path.{_≡_, refl, _∙_}
 use lib.ListN.{length}

@@ -1,3 +1,4 @@
+-- `fold_step` is foldStep: the place to look at next.
 use native.Mathlib.Omega.{arith}
 use mathlib.Core.Path.{refl}
 use Rattle.folds.specs.Sized.{sized}

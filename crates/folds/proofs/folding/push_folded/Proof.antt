@@ -1,3 +1,4 @@
+-- `push_folded`: the next folded term goes before those that stand at the back of the span, which ends at e.
 use Rattle.folds.specs.Folding.{push-floats, push-numbers}
 use Rattle.space.specs.Store.{floatsOf, numbersOf}
 use borrow.Author.Needs.{needs}

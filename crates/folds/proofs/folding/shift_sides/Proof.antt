@@ -1,3 +1,4 @@
+-- `shift_sides`: a term of the value y leaves a row's four floats.
 use Rattle.folds.specs.Folding.{shift-put}
 use Rattle.space.specs.Store.{floatsOf}
 use borrow.Author.Needs.{needs}

@@ -1,3 +1,4 @@
+-- `swap_remove` is swapRemove: the last live term of the span that starts at a moves to place i of it.
 use Rattle.folds.specs.Folding.{swap-floats, swap-numbers}
 use Rattle.space.specs.Store.{floatsOf, numbersOf}
 use borrow.Author.Needs.{needs}

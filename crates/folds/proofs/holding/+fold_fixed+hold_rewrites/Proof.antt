@@ -1,3 +1,4 @@
+-- `fold_fixed` and `hold_rewrites`, which call each other: the number that falls is 2 while the row has a binding, else 0, plus 1 in `fold_fixed`.
 use native.Mathlib.Omega.{arith}
 use Prim.Native.Nat.{_+_}
 use lib.ListN.{getD}

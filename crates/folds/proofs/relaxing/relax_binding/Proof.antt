@@ -1,3 +1,4 @@
+-- `relax_binding` is relaxBinding.
 use Rattle.space.specs.Store.{floatsOf, numbersOf}
 use Rattle.space.specs.Blocks.{kept-length}
 use Rattle.folds.specs.Relaxing.{relax-none, relax-same, relax-more}

@@ -1,3 +1,4 @@
+-- `widen`, by the upper side.
 use Rattle.space.specs.Store.{floatsOf}
 use Rattle.space.specs.Blocks.{hi-length, lo-length}
 use Rattle.folds.specs.Relaxing.{widen-hi, widen-lo}

@@ -1,3 +1,4 @@
+-- `fold_row` is foldFixed.
 use Rattle.view.specs.Known.{written-spans}
 use Rattle.folds.specs.Stands.{standing-under}
 use Rattle.folds.specs.Scan.{scan-turns}

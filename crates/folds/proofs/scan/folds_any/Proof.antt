@@ -1,3 +1,4 @@
+-- `folds_any`: whether some term of a row leaves.
 use Prim.Native.Nat.{_-_}
 use native.Mathlib.Omega.{arith}
 use mathlib.Core.Path.{refl}

@@ -1,3 +1,4 @@
+-- `leaves`: whether the term at place i leaves: its coefficient is zero, or its variable is fixed.
 use native.Mathlib.Omega.{arith}
 use Rattle.folds.specs.Scan.{leaves-zero, leaves-fixed}
 use Rattle.folds.proofs.scan.leaves.Statement.{statement}

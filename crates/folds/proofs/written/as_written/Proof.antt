@@ -1,3 +1,4 @@
+-- `as_written` is asWritten.
 use native.Mathlib.Omega.{arith}
 use mathlib.Core.Path.{refl}
 use Rattle.folds.specs.Sized.{sized}

@@ -1,3 +1,4 @@
+-- `lower_side`: a row's lower side, by its comparison.
 use Rattle.folds.specs.Written.{side-yes, side-no, below-inf}
 use mathlib.Core.Path.{_∙_}
 use Rattle.floats.specs.Num.{∞f, -∞f}

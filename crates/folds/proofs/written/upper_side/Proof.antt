@@ -1,3 +1,4 @@
+-- `upper_side`: a row's upper side, by its comparison.
 use Rattle.folds.specs.Written.{side-yes, side-no}
 use mathlib.Core.Path.{_∙_}
 use borrow.Author.Needs.{needs}

@@ -1,3 +1,4 @@
+-- `write_marks`: a row of n terms, alive, with nothing folded or rewritten.
 use Rattle.folds.specs.Written.{marks-put}
 use Rattle.space.specs.Store.{numbersOf}
 use borrow.Author.Needs.{needs}

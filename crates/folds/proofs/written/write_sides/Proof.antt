@@ -1,3 +1,4 @@
+-- `write_sides`: a row's four floats, with nothing folded.
 use Rattle.folds.specs.Written.{sides-put}
 use Rattle.space.specs.Store.{floatsOf}
 use borrow.Author.Needs.{needs}

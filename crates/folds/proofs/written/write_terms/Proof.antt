@@ -1,3 +1,4 @@
+-- `write_terms`: the input's terms from place a up to e, all live.
 use Prim.Native.Nat.{_-_, _≤_}
 use native.Mathlib.Omega.{arith}
 use mathlib.Core.Path.{_≡_, _∙_, refl}

@@ -1,3 +1,4 @@
+-- `fix_all` is fixAll.
 use Prim.Native.Nat.{_-_}
 use native.Mathlib.Omega.{arith}
 use mathlib.Core.Path.{_≡_, refl}

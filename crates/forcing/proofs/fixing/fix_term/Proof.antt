@@ -1,3 +1,4 @@
+-- `fix_term` is fix, of a term's variable at the corner of its bounds.
 use Rattle.forcing.specs.Fixing.{fix-corner}
 use borrow.Author.Needs.{needs}
 use Rattle.forcing.proofs.fixing.fix_term.Statement.{statement}

@@ -1,3 +1,4 @@
+-- `all_forced` is allForced.
 use Prim.Native.Nat.{_-_}
 use native.Mathlib.Omega.{arith}
 use Rattle.space.specs.Store.{floatsOf, numbersOf}

@@ -1,3 +1,4 @@
+-- `forced_term` is forcedTerm.
 use Rattle.forcing.specs.Forced.{forced-is}
 use borrow.Author.Needs.{needs}
 use Rattle.forcing.proofs.tests.forced_term.Statement.{statement}

@@ -1,3 +1,4 @@
+-- `forces_max` is forcesMax.
 use Rattle.rows.specs.Knowing.{looks-spans, span-at}
 use Rattle.forcing.specs.Forced.{max-far, max-open, max-at}
 use borrow.Author.Needs.{needs}

@@ -1,3 +1,4 @@
+-- `forces_min` is forcesMin.
 use Rattle.rows.specs.Knowing.{looks-spans, span-at}
 use Rattle.forcing.specs.Forced.{min-far, min-open, min-at}
 use borrow.Author.Needs.{needs}

@@ -1,3 +1,4 @@
+-- `forcing_at` is forcingAt.
 use Rattle.rows.specs.Knowing.{looks-spans, span-at}
 use Rattle.forcing.specs.Forced.{forcing-not, forcing-all}
 use borrow.Author.Needs.{needs}

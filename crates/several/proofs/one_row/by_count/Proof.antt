@@ -1,3 +1,4 @@
+-- `by_count` is byCount.
 use mathlib.Core.Path.{sym, _∙_}
 use Rattle.view.specs.Steps.{ready-under}
 use Rattle.view.specs.Known.{known-written}

@@ -1,3 +1,4 @@
+-- `end_of` is endOf, where the working activity lets the row be forcing or redundant; else the row stays open.
 use Rattle.view.specs.Steps.{ready-under}
 use Rattle.rows.specs.Knowing.{looks-spans}
 use Rattle.several.specs.Several.{end-skips, end-min, end-max, end-drop, end-open}

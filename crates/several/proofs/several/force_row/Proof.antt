@@ -1,3 +1,4 @@
+-- `force_row`: each variable at its corner, and the row dropped.
 use native.Mathlib.Omega.{arith}
 use Rattle.several.specs.Several.{force-acts}
 use borrow.Author.Needs.{needs}

@@ -1,3 +1,4 @@
+-- `reach_of` is unreachable and mayReduce.
 use Rattle.several.specs.Several.{reach-never, reach-reduces}
 use borrow.Author.Needs.{needs}
 use Rattle.several.proofs.several.reach_of.Statement.{statement}

@@ -1,3 +1,4 @@
+-- `several_terms` is severalTerms.
 use Rattle.view.specs.Steps.{ready-under}
 use Rattle.rows.specs.Knowing.{moves-spans, moves-looks, moves-marks, span-at}
 use Rattle.several.specs.Several.{several-stop, several-min, several-max, several-drop, several-implied}

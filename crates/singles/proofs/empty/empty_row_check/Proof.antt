@@ -1,3 +1,4 @@
+-- `empty_row_check` is emptyRowCheck.
 use Rattle.readers.specs.Reading.{ready-floats}
 use Rattle.singles.specs.Empty.{empty-stop, empty-drop}
 use borrow.Author.Needs.{needs}

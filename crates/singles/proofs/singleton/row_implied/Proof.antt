@@ -1,3 +1,4 @@
+-- `row_implied` is the test of singletonDrop.
 use Rattle.singles.specs.Singleton.{implied-not, implied-by}
 use borrow.Author.Needs.{needs}
 use Rattle.singles.proofs.singleton.row_implied.Statement.{statement}

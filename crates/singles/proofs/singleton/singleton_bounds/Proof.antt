@@ -1,3 +1,4 @@
+-- `singleton_bounds` is singletonBounds.
 use Rattle.view.specs.Steps.{ready-under}
 use Rattle.readers.specs.Reading.{domain-in}
 use Rattle.rows.specs.Knowing.{moves-spans, moves-domains, moves-marks, span-at}

@@ -1,3 +1,4 @@
+-- `singleton_drop` is singletonDrop.
 use Rattle.singles.specs.Singleton.{single-drop, single-stay}
 use borrow.Author.Needs.{needs}
 use Rattle.singles.proofs.singleton.singleton_drop.Statement.{statement}

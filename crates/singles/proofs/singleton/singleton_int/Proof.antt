@@ -1,3 +1,4 @@
+-- `singleton_int` is singletonInt.
 use Rattle.view.specs.Steps.{ready-under}
 use Rattle.rows.specs.Knowing.{marks-spans, marks-adj, span-at}
 use Rattle.singles.specs.Singleton.{int-stop, int-emit}

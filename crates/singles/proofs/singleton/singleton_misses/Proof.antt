@@ -1,3 +1,4 @@
+-- `singleton_misses` is singletonMisses.
 use Rattle.singles.specs.Singleton.{misses-is}
 use borrow.Author.Needs.{needs}
 use Rattle.singles.proofs.singleton.singleton_misses.Statement.{statement}

@@ -1,3 +1,4 @@
+-- `singleton_row` is singletonRow.
 use native.Mathlib.Omega.{arith}
 use Rattle.rows.specs.Knowing.{moves-spans, span-at}
 use Rattle.rows.specs.Steps.{tries-is}

@@ -1,3 +1,4 @@
+-- `waves` is waves, as many as are left.
 use Prim.Native.Nat.{_-_}
 use native.Mathlib.Omega.{arith}
 use mathlib.Core.Path.{_≡_, refl}

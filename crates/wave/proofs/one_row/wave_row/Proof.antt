@@ -1,3 +1,4 @@
+-- `wave_row` is waveRow.
 use native.Mathlib.Omega.{arith}
 use mathlib.Core.Path.{sym, _∙_}
 use Rattle.view.specs.Steps.{ready-under}

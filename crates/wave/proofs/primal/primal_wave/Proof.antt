@@ -1,3 +1,4 @@
+-- `primal_wave` is wave.
 use native.Mathlib.Omega.{arith}
 use Rattle.space.specs.Blocks.{queued-length, passes-length}
 use Rattle.wave.specs.Begin.{queued-fits, passes-small, ready-wave, wave-tries}

@@ -1,3 +1,4 @@
+-- `wave_rows` is waveRows, over the n rows that stand in the block of the wave's rows.
 use Prim.Native.Nat.{_-_}
 use native.Mathlib.Omega.{arith}
 use mathlib.Core.Path.{_≡_, refl}

@@ -1,3 +1,4 @@
+-- `copy_queue`: the rows queued so far stand in the wave's block, in their order.
 use Prim.Native.Nat.{_-_, _≤_}
 use native.Mathlib.Omega.{arith}
 use mathlib.Core.Path.{_≡_, refl}
