@@ -340,5 +340,3 @@ module _ {M : Model} {k : ℕ} (v : ℕ) (w : Work) (i : Inv M k w) where
   pub inv-lower : (q relax : Float) → InvStep M k (tightenLower M v q relax w)
   unfolding tightenLower
   inv-lower q relax = either (InvStep M k) _ (λ e. either (InvStep M k) _ (λ e′. inv-lower-int _) (λ e′. inv-lower-real _)) (λ e. goes i)
-
-module _ {P : Model → Type 0} {s : Shape} (v : ℕ) where

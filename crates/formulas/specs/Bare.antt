@@ -36,9 +36,6 @@ pub record Has (x : Limits) (w : Row) : Type 0 where
   pub foldScale : x .foldScale ≡ w .foldScale
   pub shift : x .shift ≡ w .shift
 
--- what changes the rest of the row keeps them
-module _ {x : Limits} {w : Row} (h : Has x w) where
-
 -- row r of the model has n terms as written, and the model has this tolerance and the Rust's seven numbers
 pub record Of (M : Model) (r : ℕ) (tol : Float) (n : ℕ) : Type 0 where
   pub feas : M .feas ≡ tol

@@ -28,11 +28,6 @@ pub record ReadsF {A : Type 0} (P : Model → Type 0) (s : Shape) (f : Floats) (
 pub record ReadsM {A : Type 0} (P : Model → Type 0) (s : Shape) (z : A) (F : Model → A) : Type 0 where
   pub reads : (M : Model) → P M → Call M s → F M ≡ z
 
-module _ {A : Type 0} {P : Model → Type 0} {s : Shape} {z : A} where
-
--- and under more than is asked
-module _ {A : Type 0} {P Q : Model → Type 0} {s : Shape} {z : A} (q : (M : Model) → Q M → P M) where
-
 -- what such a function asks: the floats show some state with some numbers
 pub record ReadyF (P : Model → Type 0) (s : Shape) (f : Floats) : Type 0 where
   pub numbers : Numbers

@@ -249,6 +249,3 @@ unfolding rowAfter
 after-alive M g w x i t keeps = refl
 after-alive M g w x i t (coeffOnly na) = set-alive i (t .var) na x
 after-alive M g w x i t (coeffBound na bp d) = rebound-alive M g w x i (t .var) (t .coeff) na bp
-
--- of the states that the slices show: the term at place i is v's, with the coefficient a
-module _ {ss : List ℕ} {s : Shape} {f : Floats} {n : Numbers} {r i v : ℕ} {a : Float} (D : Placed ss s n r i v) (ea : a ≡ getD (f .coeffs) (getD ss r 0 + i) nan) where
