@@ -8,7 +8,7 @@
 // freed while it runs, as a caller would. The port's slices are lent once: before the first call they hold junk, after that the
 // working slices hold zeros, as each call leaves them, and the result slices what the last call wrote. The bench counts
 // allocations. PICTURE is an SVG of how time grows with size.
-#[path = "../compare/src/generate.rs"]
+#[path = "../compare/src/generate/mod.rs"]
 #[allow(dead_code)]
 mod generate;
 #[macro_use]
@@ -212,7 +212,7 @@ fn shown(s: f64) -> String {
     }
 }
 
-fn day_one() -> Model {
+fn first_case() -> Model {
     let mut m = Model::new(1, 1e-6, 1e-9);
     m.var(INTEGER, 0.0, 10.0, 0.0);
     m.row(&[(0, 2.0)], LE, 7.0);
@@ -223,8 +223,8 @@ fn day_one() -> Model {
 fn house_weeks(rng: &mut Rng) -> Vec<Model> {
     let mut all = Vec::new();
     while all.len() < 32 {
-        let (cows, windows, boxes) = rng.pick(&[(8, 5, 2), (9, 4, 2), (5, 5, 3), (12, 3, 2)]);
-        let m = generate::planner(rng, cows, windows, boxes, false);
+        let (jobs, slots, machines) = rng.pick(&[(8, 5, 2), (9, 4, 2), (5, 5, 3), (12, 3, 2)]);
+        let m = generate::planner(rng, jobs, slots, machines, false);
         if m.vars() <= 128 && m.rows() <= 128 && m.terms() <= 512 {
             all.push(m);
         }
@@ -298,7 +298,7 @@ fn main() {
         line(&format!("{kind}, full size"), &[of_kind(kind, 8)]);
     }
     line("planner weeks, house size", &house_weeks(&mut Rng::new(1)));
-    line("day 1", &[day_one()]);
+    line("case 1", &[first_case()]);
     if let Some(path) = args.get(1) {
         println!("\n| Models | 1/8 | 2/8 | 3/8 | 4/8 | 5/8 | 6/8 | 7/8 | 8/8 | growth, 1/8 to 8/8 |");
         println!("|---|---|---|---|---|---|---|---|---|---|");

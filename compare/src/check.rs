@@ -22,7 +22,7 @@ pub struct Seen {
     pub refused: [u64; 11],
     pub rewritten_rows: u64,
     pub zero_signs: u64,
-    pub farm: u64,
+    pub whole: u64,
 }
 
 struct Check {
@@ -157,7 +157,7 @@ pub fn check(m: &Model, sizes: &Sizes, rng: &mut Rng, seen: &mut Seen) -> Option
                 }
             }
         }
-        seen.farm += m.is_farm() as u64;
+        seen.whole += m.is_whole() as u64;
     }
     seen.zero_signs += (c.zero_signs > 0) as u64;
     if c.wrong.is_empty() {

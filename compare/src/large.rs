@@ -6,30 +6,30 @@ pub const MAX_VARS: usize = 4096;
 pub const MAX_ROWS: usize = 8192;
 pub const MAX_TERMS: usize = 65536;
 
-// A week at part/8 of the largest size: visits, rests, boxes with their load, and pairs and groups that keep apart, up to the
+// A week at part/8 of the largest size: visits, rests, machines with their load, and pairs and groups that keep apart, up to the
 // rows and terms that the size has.
 pub fn planner(rng: &mut Rng, part: usize) -> Model {
-    let (windows, boxes) = (10, 4);
+    let (slots, machines) = (10, 4);
     let (vars, rows, terms) = (MAX_VARS / 8 * part, MAX_ROWS / 8 * part, MAX_TERMS / 8 * part);
-    // besides the visits there is a variable for each box in each window, and one for each window
-    let cows = (vars - windows * boxes - windows) / (windows * boxes);
-    let mut m = generate::planner(rng, cows, windows, boxes, false);
+    // besides the visits there is a variable for each machine in each slot, and one for each slot
+    let jobs = (vars - slots * machines - slots) / (slots * machines);
+    let mut m = generate::planner(rng, jobs, slots, machines, false);
     m.mode = 1;
-    let x = |c: usize, w: usize, b: usize| (c * windows + w) * boxes + b;
+    let x = |j: usize, s: usize, k: usize| (j * slots + s) * machines + k;
     while m.vars() < vars {
         let h = rng.whole(1, 20);
         m.var(INTEGER, 0.0, h, 1.0);
     }
     while m.rows() < rows && m.terms() + 16 <= terms {
-        let (w, b) = (rng.below(windows), rng.below(boxes));
+        let (s, k) = (rng.below(slots), rng.below(machines));
         let left = (terms - m.terms()) / (rows - m.rows());
         if rng.chance(30) {
             // two that must not meet
-            let (c, d) = (rng.below(cows), rng.below(cows));
-            m.row_of(&[(x(c, w, b), 1.0), (x(d, w, b), 1.0)], LE, 1.0);
+            let (i, j) = (rng.below(jobs), rng.below(jobs));
+            m.row_of(&[(x(i, s, k), 1.0), (x(j, s, k), 1.0)], LE, 1.0);
         } else {
-            // a group that shares a box
-            let t: Vec<(usize, f64)> = (0..(left + 2).min(14)).map(|_| (x(rng.below(cows), w, rng.below(boxes)), rng.whole(1, 3))).collect();
+            // a group that shares a machine
+            let t: Vec<(usize, f64)> = (0..(left + 2).min(14)).map(|_| (x(rng.below(jobs), s, rng.below(machines)), rng.whole(1, 3))).collect();
             let most = rng.whole(2, 40);
             m.row_of(&t, LE, most);
         }

@@ -134,7 +134,7 @@ impl Run {
         std::fs::write("compare/target/coverage.md", self.cover.text()).ok();
         let models = s.infeasible + s.reduced + s.unchanged;
         println!("port: {}", port::NAME);
-        println!("models: {} (infeasible {}, reduced {}, unchanged {}), farm models among them {}", thousands(models), thousands(s.infeasible), thousands(s.reduced), thousands(s.unchanged), thousands(s.farm));
+        println!("models: {} (infeasible {}, reduced {}, unchanged {}), farm models among them {}", thousands(models), thousands(s.infeasible), thousands(s.reduced), thousands(s.unchanged), thousands(s.whole));
         println!("rewritten rows emitted: {}; answers with a zero of another sign: {}", thousands(s.rewritten_rows), thousands(s.zero_signs));
         println!("farm models whose points were listed, before and after: {} ({} of them infeasible), points {}", thousands(self.points.models), thousands(self.points.infeasible), thousands(self.points.points));
         let refused: Vec<String> = (1..11).map(|k| format!("{k}: {}", thousands(s.refused[k]))).collect();

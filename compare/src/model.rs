@@ -64,7 +64,8 @@ impl Model {
     pub fn row_terms(&self, r: usize) -> Vec<(usize, f64)> {
         (self.starts[r]..self.starts[r + 1]).map(|t| (self.index[t], self.coeff[t])).collect()
     }
-    pub fn is_farm(&self) -> bool {
+    // 01's farm model: whole numbers throughout, within its limits.
+    pub fn is_whole(&self) -> bool {
         let whole = |x: f64, most: f64| x.fract() == 0.0 && x.abs() <= most;
         self.mode > 0
             && self.domain.iter().all(|&d| d != REAL)

@@ -22,13 +22,13 @@ fn meets(m: &Model, r: usize, x: &[i64]) -> bool {
 
 impl Listed {
     pub fn look(&mut self, m: &Model, answer: &Answer) {
-        if m.mode != 1 || !m.is_farm() {
+        if m.mode != 1 || !m.is_whole() {
             return;
         }
-        let mut box_size = 1i64;
+        let mut assignments = 1i64;
         for v in 0..m.vars() {
-            box_size = box_size.saturating_mul((m.upper[v] - m.lower[v]) as i64 + 1);
-            if box_size < 1 || box_size > 2000 {
+            assignments = assignments.saturating_mul((m.upper[v] - m.lower[v]) as i64 + 1);
+            if assignments < 1 || assignments > 2000 {
                 return;
             }
         }

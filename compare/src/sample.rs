@@ -8,7 +8,7 @@ use crate::model::{Model, BOOLEAN, EQ, GE, INTEGER, LE};
 use crate::refer::reference;
 use crate::refusal::{refusal, Sizes};
 
-// 01's twelve model days, in order.
+// 01's twelve cases, in order.
 pub fn twelve() -> Vec<Model> {
     let p = (INTEGER, 0.0, 10.0);
     let u = (BOOLEAN, 0.0, 1.0);
@@ -136,8 +136,8 @@ pub fn write(seed: u64, n: usize, folder: &str) {
     // house-size weeks
     for k in 0..8 {
         let mut rng = Rng::new(seed.wrapping_mul(1 << 42) + k);
-        let (cows, windows, boxes) = rng.pick(&[(8, 5, 2), (9, 4, 2), (5, 5, 3), (12, 3, 2), (7, 7, 1)]);
-        let mut m = generate::planner(&mut rng, cows, windows, boxes, k % 4 == 3);
+        let (jobs, slots, machines) = rng.pick(&[(8, 5, 2), (9, 4, 2), (5, 5, 3), (12, 3, 2), (7, 7, 1)]);
+        let mut m = generate::planner(&mut rng, jobs, slots, machines, k % 4 == 3);
         while !house::fits(&m) {
             // as many rows as the file takes
             let r = m.rows() - 1;
