@@ -6,7 +6,7 @@ on and must print.
     tools/examples.py --check     says which files are not as they would be written; exit status 1 if there is one
 
 Written by hand: examples/day-NN.txt and examples/day-NN.expected, from the scope paper. From the reference, by
-`compare/target/compare file`: examples/week/*.expected. Nothing is taken from a run of the port.
+`compare/run file`: examples/week/*.expected. Nothing is taken from a run of the port.
 """
 import io
 import os
