@@ -2,6 +2,7 @@
 #   crate::hit(FILE * 10000 + LINE)   before each statement of a function: how often the line ran
 #   crate::note(..)                   where Infeasible is returned: the counts that the Rust's own variables hold there
 #   crate::note_kept(r), note_out(r, rewritten)   where a row is kept for validation or put out: its number
+#   crate::number(PLACE, x)           x, counted where it is not a number: 1 a row's budget, 2 a row's sides and shift after a fold
 # It rests on the text being laid out by rustfmt: an opening bracket that stays open ends its line, and a statement
 # begins a line. Kinds on the stack: "b" a block of statements, "o" anything else.
 function kind(text) {
@@ -28,6 +29,8 @@ BEGIN { depth = 0; before = ";" }
     sub(/[^_]out\.push\(constraints\[row\.orig as usize\]\.clone\(\)\);/, " { crate::note_out(row.orig as usize, false); & }", line)
     if (trimmed == "out.push((") sub(/out\.push\(\(/, "crate::note_out(row.orig as usize, true); &", line)
   }
+  if (file == 4) sub(/row_tolerance\(tol, magnitude\) - slack_margin\(tol, magnitude, terms\)/, "crate::number(1, &)", line)
+  if (file == 2) sub(/row\.shift \+= shift;/, "& crate::number(2, [row.lo, row.hi, row.shift].into_iter().find(|x| x.is_nan()).unwrap_or(0.0));", line)
   if (starts) {
     match(line, /^ */)
     line = substr(line, 1, RLENGTH) "crate::hit(" (file * 10000 + NR) "); " substr(line, RLENGTH + 1)

@@ -69,22 +69,38 @@ const REDUCTIONS: [Event; 41] = [
     ("30 waves", |n| (n(10251) == 30) as u64),
 ];
 
+// Places that are no lines': sums that are not numbers (notes.awk).
+const SUMS: [Event; 2] = [
+    ("a row's budget that is not a number", |n| n(1)),
+    ("a fold that leaves a side or the shift of its row not a number", |n| n(2)),
+];
+
 pub struct Cover {
     before: Vec<u64>,
+    before_sums: [u64; SUMS.len()],
     lines: Vec<u64>,
     // times, and models
     exits: Vec<(u64, u64)>,
     reductions: Vec<(u64, u64)>,
+    sums: Vec<(u64, u64)>,
 }
 
 impl Cover {
     pub fn new() -> Self {
-        Cover { before: vec![0; PLACES.len()], lines: vec![0; PLACES.len()], exits: vec![(0, 0); EXITS.len()], reductions: vec![(0, 0); REDUCTIONS.len()] }
+        Cover {
+            before: vec![0; PLACES.len()],
+            before_sums: [0; SUMS.len()],
+            lines: vec![0; PLACES.len()],
+            exits: vec![(0, 0); EXITS.len()],
+            reductions: vec![(0, 0); REDUCTIONS.len()],
+            sums: vec![(0, 0); SUMS.len()],
+        }
     }
     pub fn begin(&mut self) {
         for (b, p) in self.before.iter_mut().zip(PLACES) {
             *b = noted::hits(p.0);
         }
+        self.before_sums = std::array::from_fn(|i| noted::hits(i + 1));
     }
     // What ran since `begin`, as one model's.
     pub fn end(&mut self) {
@@ -93,9 +109,12 @@ impl Cover {
             self.lines[i] += self.before[i];
         }
         let place = |line: usize| PLACES.binary_search_by_key(&line, |p| p.0).ok();
-        let before = &self.before;
-        let of = |line: usize| place(line).map_or(0, |i| before[i]);
-        for (events, sums) in [(&EXITS[..], &mut self.exits), (&REDUCTIONS[..], &mut self.reductions)] {
+        let (before, before_sums) = (&self.before, &self.before_sums);
+        let of = |line: usize| match before_sums.get(line - 1) {
+            Some(b) => noted::hits(line) - b,
+            None => place(line).map_or(0, |i| before[i]),
+        };
+        for (events, sums) in [(&EXITS[..], &mut self.exits), (&REDUCTIONS[..], &mut self.reductions), (&SUMS[..], &mut self.sums)] {
             for ((_, count), sum) in events.iter().zip(sums) {
                 let n = count(&of);
                 sum.0 += n;
@@ -103,16 +122,16 @@ impl Cover {
             }
         }
     }
-    // Whether something happened in f that happened in fewer than `few` models so far; if so, f counts.
+    // Whether an exit or a reduction happened in f that happened in fewer than `few` models so far; if so, f counts.
     pub fn rare(&mut self, few: u64, f: impl Fn()) -> bool {
-        let (exits, reductions, lines) = (self.exits.clone(), self.reductions.clone(), self.lines.clone());
+        let (exits, reductions, sums, lines) = (self.exits.clone(), self.reductions.clone(), self.sums.clone(), self.lines.clone());
         self.begin();
         f();
         self.end();
         let grew = |old: &[(u64, u64)], new: &[(u64, u64)]| old.iter().zip(new).any(|(o, n)| o.1 < few && n.1 > o.1);
         let rare = grew(&exits, &self.exits) || grew(&reductions, &self.reductions);
         if !rare {
-            (self.exits, self.reductions, self.lines) = (exits, reductions, lines);
+            (self.exits, self.reductions, self.sums, self.lines) = (exits, reductions, sums, lines);
         }
         rare
     }
@@ -120,12 +139,13 @@ impl Cover {
         let of = |events: &'static [Event], sums: &[(u64, u64)]| events.iter().zip(sums).filter(|(_, s)| s.0 == 0).map(|(e, _)| e.0).collect::<Vec<_>>();
         let mut all = of(&EXITS, &self.exits);
         all.extend(of(&REDUCTIONS, &self.reductions));
+        all.extend(of(&SUMS, &self.sums));
         all
     }
     // As a document: the tables, and the lines that never ran.
     pub fn text(&self) -> String {
         let mut s = String::new();
-        for (title, events, sums) in [("Infeasible at", &EXITS[..], &self.exits), ("Reduction or event", &REDUCTIONS[..], &self.reductions)] {
+        for (title, events, sums) in [("Infeasible at", &EXITS[..], &self.exits), ("Reduction or event", &REDUCTIONS[..], &self.reductions), ("Sums", &SUMS[..], &self.sums)] {
             s += &format!("| {title} | times | models |\n|---|---|---|\n");
             for (e, n) in events.iter().zip(sums) {
                 s += &format!("| {} | {} | {} |\n", e.0, thousands(n.0), thousands(n.1));

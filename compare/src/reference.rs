@@ -156,6 +156,14 @@ pub(crate) fn hit(place: usize) {
     HITS[place].store(HITS[place].load(Relaxed) + 1, Relaxed);
 }
 
+// A number on its way; counted at this place, which is no line's, where it is none.
+pub(crate) fn number(place: usize, x: f64) -> f64 {
+    if x.is_nan() {
+        hit(place);
+    }
+    x
+}
+
 pub fn hits(place: usize) -> u64 {
     HITS[place].load(std::sync::atomic::Ordering::Relaxed)
 }
