@@ -86,9 +86,25 @@ fn together(files: &[Vec<u8>]) -> (Vec<u8>, String) {
     (blob, out)
 }
 
-// N files, good and damaged by turns, through the program of crates/replay: how many it answered right.
+// The refusals that a file can have. The reader makes slices that agree, starts and codes that are right, within the maxima and
+// in enough space: so a file is never refused with 1, 2, 3, 5 or 10.
+const OF_FILES: [usize; 9] = [4, 6, 7, 8, 9, 11, 12, 13, 14];
+
+// The number that a text refuses with, or 0.
+fn refused(text: &str) -> usize {
+    text.strip_prefix("refused ").map_or(0, |n| n.trim_end().parse().expect("a number"))
+}
+
+// A printed text by its files: what stands before the first, and then each with its number.
+fn parts(text: &str) -> Vec<&str> {
+    text.split("file ").collect()
+}
+
+// N files, good and damaged by turns, through the program of crates/replay: how many it answered right. What it prints besides
+// is a failure, and so is a refusal that none of the files had.
 pub fn through(program: &str, seed: u64, n: usize) -> (usize, usize) {
     let (mut passed, mut failed) = (0, 0);
+    let mut met = [0; 15];
     let mut k = 0;
     while passed + failed < n {
         let mut files = Vec::new();
@@ -103,10 +119,10 @@ pub fn through(program: &str, seed: u64, n: usize) -> (usize, usize) {
             }
         }
         let (blob, expected) = together(&files);
-        let got = piped(program, blob);
-        let parts = |s: &str| s.split("file ").map(|x| x.to_string()).collect::<Vec<_>>();
-        let (want, got) = (parts(&expected), parts(&got));
+        let printed = piped(program, blob);
+        let (want, got) = (parts(&expected), parts(&printed));
         for i in 1..want.len() {
+            met[refused(want[i].split_once('\n').map_or("", |x| x.1))] += 1;
             if got.get(i) == Some(&want[i]) {
                 passed += 1;
             } else {
@@ -114,6 +130,20 @@ pub fn through(program: &str, seed: u64, n: usize) -> (usize, usize) {
                 eprintln!("{:02x?}\nexpected file {}got {:?}", files[i - 1], want[i], got.get(i));
             }
         }
+        if got[0] != want[0] {
+            failed += 1;
+            eprintln!("before the first file: {:?}", got[0]);
+        }
+        if got.len() != want.len() {
+            failed += 1;
+            eprintln!("{} files were answered, of {}", got.len() - 1, want.len() - 1);
+        }
+    }
+    let line: Vec<String> = OF_FILES.iter().map(|&k| format!("{k}: {}", met[k])).collect();
+    println!("answered files: {}; refused files: {}", met[0], line.join(", "));
+    for k in (1..15).filter(|k| OF_FILES.contains(k) != (met[*k] > 0)) {
+        failed += 1;
+        println!("refused with {k}: {}", if met[k] > 0 { "met, though no file can be" } else { "never met" });
     }
     (passed, failed)
 }
