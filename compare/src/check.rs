@@ -2,9 +2,15 @@
 // lent memory.
 use crate::generate::Rng;
 use crate::model::{Answer, Model};
-use crate::port::{call, Lent, INFEASIBLE, PRESOLVED};
-use crate::refer::reference;
-use crate::refusal::{refusal, Sizes};
+use crate::part::Part;
+use crate::port::{call, Lent, Mark, INFEASIBLE, PRESOLVED};
+use crate::refusal::Sizes;
+
+// What a call must give.
+pub enum Expected {
+    Refused(u8),
+    Answered(Answer),
+}
 
 // Equal but for the sign of zero; every NaN is the one NaN.
 fn same(a: f64, b: f64) -> bool {
@@ -25,8 +31,27 @@ pub struct Seen {
     pub whole: u64,
 }
 
-struct Check {
-    wrong: Vec<String>,
+impl Seen {
+    fn answer(&mut self, m: &Model, answer: &Answer) {
+        match answer {
+            Answer::Infeasible(_) => self.infeasible += 1,
+            Answer::Done(r) => {
+                self.rewritten_rows += r.emitted.iter().filter(|e| e.rewritten).count() as u64;
+                if r.flag {
+                    self.reduced += 1
+                } else {
+                    self.unchanged += 1
+                }
+            }
+        }
+        self.whole += m.is_whole() as u64;
+    }
+}
+
+// What is wrong with a call, at most eight things of it.
+#[derive(Default)]
+pub struct Check {
+    pub wrong: Vec<String>,
     zero_signs: u64,
 }
 
@@ -72,44 +97,62 @@ impl Check {
         self.floats("term_coeff", &got.term_coeff, &want.term_coeff, &before.term_coeff);
         self.numbers("answer", &got.answer, &want.answer, &before.answer);
     }
-    fn working(&mut self, got: &Lent, before: Option<&Lent>) {
-        match before {
-            Some(b) => {
-                self.floats("floats", &got.floats, &[], &b.floats);
-                self.numbers("numbers", &got.numbers, &[], &b.numbers);
-                self.numbers("adjacency", &got.adjacency, &[], &b.adjacency);
-            }
-            None => {
-                self.fact(got.floats.iter().all(|x| x.to_bits() == 0), || "floats: not all zero after an accepted call".into());
-                self.fact(got.numbers.iter().all(|&x| x == 0), || "numbers: not all zero after an accepted call".into());
-                self.fact(got.adjacency.iter().all(|&x| x == 0), || "adjacency: not all zero after an accepted call".into());
-            }
+    // All working slices are plus zero.
+    fn cleared(&mut self, got: &Lent) {
+        self.fact(got.floats.iter().all(|x| x.to_bits() == 0), || "floats: not all zero after an accepted call".into());
+        self.fact(got.numbers.iter().all(|&x| x == 0), || "numbers: not all zero after an accepted call".into());
+        self.fact(got.adjacency.iter().all(|&x| x == 0), || "adjacency: not all zero after an accepted call".into());
+    }
+    // What stands beside the lent slices is as it was.
+    fn guards(&mut self, got: &Lent) {
+        for name in got.overrun() {
+            self.fact(false, || format!("{name}: written beside what was lent"));
         }
+    }
+    // A refused call: its number, and nothing written.
+    fn refused(&mut self, number: u8, code: u8, got: &Lent, before: &Lent) {
+        self.fact(code == number, || format!("answered {code}, the table has {number}"));
+        let nothing = Lent::zeros(&Sizes::NONE);
+        self.results(got, &nothing, before);
+        self.floats("floats", &got.floats, &[], &before.floats);
+        self.numbers("numbers", &got.numbers, &[], &before.numbers);
+        self.numbers("adjacency", &got.adjacency, &[], &before.adjacency);
+        self.guards(got);
+    }
+    // An accepted call: the whole answer, in slices that held `before`.
+    pub fn answered(&mut self, answer: &Answer, code: u8, got: &Lent, before: &Lent) {
+        let (want_code, want) = wanted(answer);
+        self.fact(code == want_code, || format!("answered {code}, the reference {want_code}"));
+        if code == want_code {
+            self.results(got, &want, before);
+        }
+        self.cleared(got);
+        self.guards(got);
     }
 }
 
-// What the result slices and the answer's numbers begin with after this answer.
+// What is returned, and what the result slices and the answer's numbers begin with, after this answer.
 fn wanted(a: &Answer) -> (u8, Lent) {
-    let nothing = Sizes { lower: 0, upper: 0, emit_row: 0, emit_rewritten: 0, emit_rhs: 0, emit_from: 0, emit_upto: 0, kept: 0, term_index: 0, term_coeff: 0, floats: 0, numbers: 0, adjacency: 0, answer: 0 };
-    let mut w = Lent::zeros(&nothing);
+    let mut w = Lent::zeros(&Sizes::NONE);
     match a {
         Answer::Infeasible(c) => {
-            w.answer = c.to_vec();
+            w.answer = Part::new(c.to_vec());
             (INFEASIBLE, w)
         }
         Answer::Done(r) => {
-            w.lower = r.lower.clone();
-            w.upper = r.upper.clone();
-            w.emit_row = r.emitted.iter().map(|e| e.row).collect();
-            w.emit_rewritten = r.emitted.iter().map(|e| e.rewritten).collect();
-            w.emit_rhs = r.emitted.iter().map(|e| e.rhs).collect();
-            w.emit_from = r.emitted.iter().map(|e| e.from).collect();
-            w.emit_upto = r.emitted.iter().map(|e| e.upto).collect();
-            w.kept = r.kept.clone();
-            w.term_index = r.terms.iter().map(|t| t.0).collect();
-            w.term_coeff = r.terms.iter().map(|t| t.1).collect();
-            w.answer = r.counts.to_vec();
-            w.answer.extend([r.emitted.len(), r.terms.len(), r.kept.len(), r.flag as usize]);
+            w.lower = Part::new(r.lower.clone());
+            w.upper = Part::new(r.upper.clone());
+            w.emit_row = Part::new(r.emitted.iter().map(|e| e.row).collect());
+            w.emit_rewritten = Part::new(r.emitted.iter().map(|e| Mark::from(e.rewritten)).collect());
+            w.emit_rhs = Part::new(r.emitted.iter().map(|e| e.rhs).collect());
+            w.emit_from = Part::new(r.emitted.iter().map(|e| e.from).collect());
+            w.emit_upto = Part::new(r.emitted.iter().map(|e| e.upto).collect());
+            w.kept = Part::new(r.kept.clone());
+            w.term_index = Part::new(r.terms.iter().map(|t| t.0).collect());
+            w.term_coeff = Part::new(r.terms.iter().map(|t| t.1).collect());
+            let mut answer = r.counts.to_vec();
+            answer.extend([r.emitted.len(), r.terms.len(), r.kept.len(), r.flag as usize]);
+            w.answer = Part::new(answer);
             (PRESOLVED, w)
         }
     }
@@ -117,48 +160,27 @@ fn wanted(a: &Answer) -> (u8, Lent) {
 
 // The port's call on this model and on slices of these sizes full of junk, twice with the same slices where it is accepted.
 // What is wrong with it, if anything.
-pub fn check(m: &Model, sizes: &Sizes, rng: &mut Rng, seen: &mut Seen) -> Option<String> {
-    let mut c = Check { wrong: vec![], zero_signs: 0 };
+pub fn check(m: &Model, sizes: &Sizes, expected: &Expected, rng: &mut Rng, seen: &mut Seen) -> Option<String> {
+    let mut c = Check::default();
+    let given = m.clone();
     let before = Lent::junk(rng, sizes);
     let mut lent = before.clone();
     let code = call(m, &mut lent);
-    let refused = refusal(m, sizes);
-    if refused != 0 {
-        c.fact(code == refused, || format!("answered {code}, the table has {refused}"));
-        let nothing = wanted(&Answer::Infeasible([0; 5])).1;
-        let nothing = Lent { answer: vec![], ..nothing };
-        c.results(&lent, &nothing, &before);
-        c.working(&lent, Some(&before));
-        seen.refused[refused as usize] += 1;
-    } else {
-        let answer = reference(m);
-        let (want_code, want) = wanted(&answer);
-        c.fact(code == want_code, || format!("answered {code}, the reference {want_code}"));
-        if code == want_code {
-            c.results(&lent, &want, &before);
+    match expected {
+        Expected::Refused(number) => {
+            c.refused(*number, code, &lent, &before);
+            seen.refused[*number as usize] += 1;
         }
-        c.working(&lent, None);
-        // again, in the space as the first call left it
-        let first = lent.clone();
-        let again = call(m, &mut lent);
-        c.fact(again == code, || format!("answered {code}, then {again} in the same space"));
-        if code == want_code && again == code {
-            c.results(&lent, &want, &first);
+        Expected::Answered(answer) => {
+            c.answered(answer, code, &lent, &before);
+            // again, in the space as the first call left it
+            let first = lent.clone();
+            let again = call(m, &mut lent);
+            c.answered(answer, again, &lent, &first);
+            seen.answer(m, answer);
         }
-        c.working(&lent, None);
-        match &answer {
-            Answer::Infeasible(_) => seen.infeasible += 1,
-            Answer::Done(r) => {
-                seen.rewritten_rows += r.emitted.iter().filter(|e| e.rewritten).count() as u64;
-                if r.flag {
-                    seen.reduced += 1
-                } else {
-                    seen.unchanged += 1
-                }
-            }
-        }
-        seen.whole += m.is_whole() as u64;
     }
+    c.fact(m.same(&given), || "the model was written to".into());
     seen.zero_signs += (c.zero_signs > 0) as u64;
     if c.wrong.is_empty() {
         seen.passed += 1;

@@ -77,6 +77,12 @@ impl Model {
             && self.int_tol <= 0.01
     }
 
+    // The same numbers, bit for bit.
+    pub fn same(&self, other: &Model) -> bool {
+        let floats = |m: &Model| -> Vec<u64> { [&m.obj, &m.lower, &m.upper, &m.coeff, &m.rhs, &vec![m.feas, m.int_tol]].iter().flat_map(|x| x.iter().map(|x| x.to_bits())).collect() };
+        floats(self) == floats(other) && self.domain == other.domain && self.starts == other.starts && self.index == other.index && self.cmp == other.cmp && self.mode == other.mode
+    }
+
     // As text, floats by their bits with the decimal beside, for models that are saved.
     pub fn to_text(&self) -> String {
         let f = |x: f64| format!("{:016x} ({:e})", x.to_bits(), x);
@@ -92,6 +98,7 @@ impl Model {
         }
         s
     }
+    // The last model of a text.
     pub fn from_text(text: &str) -> Self {
         let mut m = Model::new(0, 0.0, 0.0);
         let mut open = false;
@@ -100,10 +107,9 @@ impl Model {
             let bits = |i: usize| f64::from_bits(u64::from_str_radix(w[i], 16).expect("16 hexadecimal digits"));
             let number = |i: usize| w[i].parse::<usize>().expect("a number");
             match w.first().copied() {
-                Some("model") => {
-                    m.mode = number(2) as u8;
-                    m.feas = bits(4);
-                    m.int_tol = bits(6);
+                Some("model") if w.len() == 7 => {
+                    m = Model::new(number(2) as u8, bits(4), bits(6));
+                    open = false;
                 }
                 Some("var") => {
                     m.var(number(2) as u8, bits(4), bits(6), bits(8));

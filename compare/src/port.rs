@@ -2,25 +2,68 @@
 // driver itself, which can be told to be wrong in one of several ways.
 use crate::generate::Rng;
 use crate::model::Model;
+use crate::part::Part;
 use crate::refusal::Sizes;
 
-// What a caller lends.
-#[derive(Clone)]
-pub struct Lent {
-    pub lower: Vec<f64>,
-    pub upper: Vec<f64>,
-    pub emit_row: Vec<usize>,
-    pub emit_rewritten: Vec<bool>,
-    pub emit_rhs: Vec<f64>,
-    pub emit_from: Vec<usize>,
-    pub emit_upto: Vec<usize>,
-    pub kept: Vec<usize>,
-    pub term_index: Vec<usize>,
-    pub term_coeff: Vec<f64>,
-    pub floats: Vec<f64>,
-    pub numbers: Vec<usize>,
-    pub adjacency: Vec<usize>,
-    pub answer: Vec<usize>,
+// How an emitted row is marked rewritten.
+pub type Mark = bool;
+
+macro_rules! slices {
+    ($($name:ident: $of:ty,)*) => {
+        // What a caller lends, each slice between guard words.
+        #[derive(Clone)]
+        pub struct Lent {
+            $(pub $name: Part<$of>,)*
+        }
+
+        // The slices of it.
+        #[derive(Debug)]
+        pub struct Slices<'a> {
+            $(pub $name: &'a mut [$of],)*
+        }
+
+        impl Lent {
+            // Slices of these sizes that hold zeros.
+            pub fn zeros(s: &Sizes) -> Self {
+                Lent { $($name: Part::new(vec![<$of>::default(); s.$name]),)* }
+            }
+            pub fn slices(&mut self) -> Slices<'_> {
+                Slices { $($name: self.$name.lent(),)* }
+            }
+            // The slices beside which something was written.
+            pub fn overrun(&self) -> Vec<&'static str> {
+                let mut names = Vec::new();
+                $(if !self.$name.guards_stand() {
+                    names.push(stringify!($name));
+                })*
+                names
+            }
+        }
+
+        #[cfg(not(port))]
+        impl Slices<'_> {
+            fn sizes(&self) -> Sizes {
+                Sizes { $($name: self.$name.len(),)* }
+            }
+        }
+    };
+}
+
+slices! {
+    lower: f64,
+    upper: f64,
+    emit_row: usize,
+    emit_rewritten: Mark,
+    emit_rhs: f64,
+    emit_from: usize,
+    emit_upto: usize,
+    kept: usize,
+    term_index: usize,
+    term_coeff: f64,
+    floats: f64,
+    numbers: usize,
+    adjacency: usize,
+    answer: usize,
 }
 
 // Values that a port might trip over, were it to read them.
@@ -49,51 +92,13 @@ fn junk_number(rng: &mut Rng) -> usize {
 impl Lent {
     // Slices of these sizes, full of junk.
     pub fn junk(rng: &mut Rng, s: &Sizes) -> Self {
-        let mut f = |n: usize| (0..n).map(|_| junk_float(rng)).collect::<Vec<f64>>();
+        let mut f = |n: usize| Part::new((0..n).map(|_| junk_float(rng)).collect());
         let (lower, upper, emit_rhs, term_coeff, floats) = (f(s.lower), f(s.upper), f(s.emit_rhs), f(s.term_coeff), f(s.floats));
-        let mut u = |n: usize| (0..n).map(|_| junk_number(rng)).collect::<Vec<usize>>();
+        let mut u = |n: usize| Part::new((0..n).map(|_| junk_number(rng)).collect());
         let (emit_row, emit_from, emit_upto, kept, term_index) = (u(s.emit_row), u(s.emit_from), u(s.emit_upto), u(s.kept), u(s.term_index));
         let (numbers, adjacency, answer) = (u(s.numbers), u(s.adjacency), u(s.answer));
-        let emit_rewritten = (0..s.emit_rewritten).map(|_| rng.chance(50)).collect();
+        let emit_rewritten = Part::new((0..s.emit_rewritten).map(|_| Mark::from(rng.chance(50))).collect());
         Lent { lower, upper, emit_row, emit_rewritten, emit_rhs, emit_from, emit_upto, kept, term_index, term_coeff, floats, numbers, adjacency, answer }
-    }
-    // Slices of these sizes that hold zeros.
-    pub fn zeros(s: &Sizes) -> Self {
-        Lent {
-            lower: vec![0.0; s.lower],
-            upper: vec![0.0; s.upper],
-            emit_row: vec![0; s.emit_row],
-            emit_rewritten: vec![false; s.emit_rewritten],
-            emit_rhs: vec![0.0; s.emit_rhs],
-            emit_from: vec![0; s.emit_from],
-            emit_upto: vec![0; s.emit_upto],
-            kept: vec![0; s.kept],
-            term_index: vec![0; s.term_index],
-            term_coeff: vec![0.0; s.term_coeff],
-            floats: vec![0.0; s.floats],
-            numbers: vec![0; s.numbers],
-            adjacency: vec![0; s.adjacency],
-            answer: vec![0; s.answer],
-        }
-    }
-    #[cfg(not(port))]
-    pub fn sizes(&self) -> Sizes {
-        Sizes {
-            lower: self.lower.len(),
-            upper: self.upper.len(),
-            emit_row: self.emit_row.len(),
-            emit_rewritten: self.emit_rewritten.len(),
-            emit_rhs: self.emit_rhs.len(),
-            emit_from: self.emit_from.len(),
-            emit_upto: self.emit_upto.len(),
-            kept: self.kept.len(),
-            term_index: self.term_index.len(),
-            term_coeff: self.term_coeff.len(),
-            floats: self.floats.len(),
-            numbers: self.numbers.len(),
-            adjacency: self.adjacency.len(),
-            answer: self.answer.len(),
-        }
     }
 }
 
@@ -108,14 +113,21 @@ pub const NAME: &str = "the static library";
 #[allow(dead_code)]
 mod presolve;
 
-// The call, with no test of its own: the library refuses what it does not take.
+#[cfg(port)]
+impl Slices<'_> {
+    // The call, with no test of its own: the library refuses what it does not take.
+    pub fn call(&mut self, m: &Model) -> u8 {
+        presolve::presolve(
+            &m.obj, &m.lower, &m.upper, &m.domain, &m.starts, &m.index, &m.coeff, &m.cmp, &m.rhs, m.mode, m.feas, m.int_tol,
+            self.lower, self.upper, self.emit_row, self.emit_rewritten, self.emit_rhs, self.emit_from, self.emit_upto,
+            self.kept, self.term_index, self.term_coeff, self.floats, self.numbers, self.adjacency, self.answer,
+        )
+    }
+}
+
 #[cfg(port)]
 pub fn call(m: &Model, s: &mut Lent) -> u8 {
-    presolve::presolve(
-        &m.obj, &m.lower, &m.upper, &m.domain, &m.starts, &m.index, &m.coeff, &m.cmp, &m.rhs, m.mode, m.feas, m.int_tol,
-        &mut s.lower, &mut s.upper, &mut s.emit_row, &mut s.emit_rewritten, &mut s.emit_rhs, &mut s.emit_from, &mut s.emit_upto,
-        &mut s.kept, &mut s.term_index, &mut s.term_coeff, &mut s.floats, &mut s.numbers, &mut s.adjacency, &mut s.answer,
-    )
+    s.slices().call(m)
 }
 
 #[cfg(not(port))]
@@ -134,7 +146,7 @@ mod stand_in {
 
     // Which of the faults below the stand-in has; none by default.
     pub static FAULT: AtomicUsize = AtomicUsize::new(usize::MAX);
-    pub const FAULTS: [&str; 22] = [
+    pub const FAULTS: [&str; 24] = [
         "a count of an infeasible answer is 0",
         "a lower bound is one unit off",
         "an upper bound is one unit off",
@@ -157,14 +169,30 @@ mod stand_in {
         "a working slice may be one short",
         "a result slice may be one short",
         "infeasible where no row is left",
+        "the word before a result slice is written",
+        "the word after a working slice is written",
     ];
 
     fn up(x: f64) -> f64 {
         f64::from_bits(x.to_bits() + 1)
     }
 
+    fn fault(k: usize) -> bool {
+        FAULT.load(Relaxed) == k
+    }
+
     pub fn call(m: &Model, s: &mut Lent) -> u8 {
-        let fault = |k: usize| FAULT.load(Relaxed) == k;
+        let code = answered(m, &mut s.slices());
+        if fault(22) {
+            *s.upper.beside(false) = 0.0;
+        }
+        if fault(23) {
+            *s.numbers.beside(true) = 0;
+        }
+        code
+    }
+
+    fn answered(m: &Model, s: &mut Slices) -> u8 {
         let mut sizes = s.sizes();
         if fault(19) {
             sizes.adjacency += 1;
@@ -206,7 +234,7 @@ mod stand_in {
                 let mut kept = r.kept.len();
                 for (i, e) in r.emitted.iter().enumerate() {
                     s.emit_row[i] = e.row;
-                    s.emit_rewritten[i] = e.rewritten && !fault(4);
+                    s.emit_rewritten[i] = Mark::from(e.rewritten && !fault(4));
                     s.emit_rhs[i] = if fault(5) && e.rewritten { up(e.rhs) } else { e.rhs };
                     s.emit_from[i] = e.from + (fault(6) && e.from < e.upto) as usize;
                     if let Some(upto) = s.emit_upto.get_mut(i) {

@@ -65,3 +65,12 @@ pub fn reduced_model_agrees(m: &Model, a: &Answer) {
     let reduced = matches!(a, Answer::Done(r) if r.flag);
     assert_eq!(plain::gives_reduced_model(&plain_input(m)), reduced, "reduced_model of\n{}", m.to_text());
 }
+
+// What f gives, or what it panicked with.
+pub fn caught<T>(f: impl FnOnce() -> T) -> Result<T, String> {
+    std::panic::catch_unwind(std::panic::AssertUnwindSafe(f)).map_err(|e| match (e.downcast_ref::<&str>(), e.downcast_ref::<String>()) {
+        (Some(s), _) => s.to_string(),
+        (_, Some(s)) => s.clone(),
+        _ => "no message".into(),
+    })
+}

@@ -21,6 +21,7 @@ pub struct Sizes {
 }
 
 impl Sizes {
+    pub const NONE: Sizes = Sizes { lower: 0, upper: 0, emit_row: 0, emit_rewritten: 0, emit_rhs: 0, emit_from: 0, emit_upto: 0, kept: 0, term_index: 0, term_coeff: 0, floats: 0, numbers: 0, adjacency: 0, answer: 0 };
     // Just enough: docs/WORKSPACE.md for the working slices.
     pub fn least(m: &Model) -> Self {
         let (v, r, t) = (m.vars(), m.rows(), m.terms());
