@@ -3,11 +3,15 @@
 //     bench/run [PICTURE]
 //
 // builds both and runs this. Each figure is the median of many calls (of batches of calls, where one is short), in the thread's
-// own processor time, so that other work on the machine counts little. The reference
-// is microlp 0.7.0's own text, compiled for release; its input is built before the clock runs, and the result it allocates is
-// freed while it runs, as a caller would. The port's slices are lent once: before the first call they hold junk, after that the
-// working slices hold zeros, as each call leaves them, and the result slices what the last call wrote. The bench counts
-// allocations. PICTURE is an SVG of how time grows with size.
+// own processor time, so that other work on the machine counts little. The reference is microlp 0.7.0's own text, compiled for
+// release; its input is built before the clock runs, and the result it allocates is freed while it runs, as a caller would. The
+// port's slices are lent once: before the first call, which is not timed, all of them hold junk; after that the working slices
+// hold zeros, as each call leaves them, and the result slices what the last call wrote. Before the timing and after it the
+// port's whole answer is compared with the reference's. The reference's allocations are counted; that the port has none is seen
+// from what its library needs (compare/library). PICTURE is an SVG of how time grows with size.
+#[path = "../compare/src/check.rs"]
+#[allow(dead_code)]
+mod check;
 #[path = "../compare/src/generate/mod.rs"]
 #[allow(dead_code)]
 mod generate;
@@ -20,11 +24,23 @@ mod large;
 #[path = "../compare/src/model.rs"]
 #[allow(dead_code)]
 mod model;
-#[path = "../include/presolve.rs"]
-mod presolve;
+#[path = "../compare/src/part.rs"]
+mod part;
+#[path = "../compare/src/port.rs"]
+#[allow(dead_code)]
+mod port;
+#[path = "../compare/src/refer.rs"]
+#[allow(dead_code)]
+mod refer;
+#[path = "../compare/src/refusal.rs"]
+#[allow(dead_code)]
+mod refusal;
 
+use check::Check;
 use generate::Rng;
-use model::{Model, INTEGER, LE};
+use model::{Answer, Model, INTEGER, LE};
+use port::Lent;
+use refusal::Sizes;
 use std::alloc::{GlobalAlloc, Layout, System};
 use std::hint::black_box;
 use std::sync::atomic::{AtomicBool, AtomicU64, Ordering::Relaxed};
@@ -91,59 +107,23 @@ fn allocations(f: impl FnOnce()) -> u64 {
     COUNT.load(Relaxed)
 }
 
-// What is lent to the port.
-struct Lent {
-    lower: Vec<f64>,
-    upper: Vec<f64>,
-    emit_row: Vec<usize>,
-    emit_rewritten: Vec<bool>,
-    emit_rhs: Vec<f64>,
-    emit_from: Vec<usize>,
-    emit_upto: Vec<usize>,
-    kept: Vec<usize>,
-    term_index: Vec<usize>,
-    term_coeff: Vec<f64>,
-    floats: Vec<f64>,
-    numbers: Vec<usize>,
-    adjacency: Vec<usize>,
-    answer: Vec<usize>,
-}
-
-impl Lent {
-    fn new(m: &Model) -> Self {
-        let (v, r, t) = (m.vars(), m.rows(), m.terms());
-        Lent {
-            lower: vec![0.0; v],
-            upper: vec![0.0; v],
-            emit_row: vec![0; r],
-            emit_rewritten: vec![false; r],
-            emit_rhs: vec![0.0; r],
-            emit_from: vec![0; r],
-            emit_upto: vec![0; r],
-            kept: vec![0; r],
-            term_index: vec![0; t],
-            term_coeff: vec![0.0; t],
-            floats: vec![f64::NAN; presolve::floats_needed(v, r, t)],
-            numbers: vec![usize::MAX; presolve::numbers_needed(v, r, t)],
-            adjacency: vec![usize::MAX; presolve::adjacency_needed(v, r, t)],
-            answer: vec![0; presolve::ANSWER],
-        }
-    }
-    fn call(&mut self, m: &Model) -> u8 {
-        presolve::presolve(
-            &m.obj, &m.lower, &m.upper, &m.domain, &m.starts, &m.index, &m.coeff, &m.cmp, &m.rhs, m.mode, m.feas, m.int_tol,
-            &mut self.lower, &mut self.upper, &mut self.emit_row, &mut self.emit_rewritten, &mut self.emit_rhs, &mut self.emit_from, &mut self.emit_upto,
-            &mut self.kept, &mut self.term_index, &mut self.term_coeff, &mut self.floats, &mut self.numbers, &mut self.adjacency, &mut self.answer,
-        )
+// Calls the port once on each model, and stops unless its whole answer is the reference's.
+fn compare(models: &[Model], answers: &[Answer], lent: &mut [Lent]) {
+    for ((m, a), s) in models.iter().zip(answers).zip(lent) {
+        let before = s.clone();
+        let code = port::call(m, s);
+        let mut c = Check::default();
+        c.answered(a, code, s, &before);
+        assert!(c.wrong.is_empty(), "the answers differ:\n{}", c.wrong.join("\n"));
     }
 }
 
 struct Times {
     rust: f64,
     port: f64,
-    runs: usize,
+    // of each of the two
+    calls: usize,
     rust_allocations: u64,
-    port_allocations: u64,
     counts: Option<[usize; 5]>,
 }
 
@@ -155,23 +135,12 @@ fn median(x: &mut [f64]) -> f64 {
 // Seconds a call of both over all the models, by turns.
 fn times(models: &[Model], seconds: f64) -> Times {
     let inputs: Vec<plain::Input> = models.iter().map(input::plain_input).collect();
-    let mut lent: Vec<Lent> = models.iter().map(Lent::new).collect();
-    let mut counts = None;
-    // the two agree
-    for ((m, i), s) in models.iter().zip(&inputs).zip(&mut lent) {
-        let (code, r) = (s.call(m), plain::run(i));
-        match &r {
-            Some(r) => {
-                assert!(code == 0 && s.answer[..5] == r.counts && s.answer[5] == r.rows.len() && s.answer[7] == r.kept.len() && s.lower == r.lower && s.upper == r.upper, "the answers differ");
-                counts = Some(r.counts);
-            }
-            None => assert_eq!(code, 100, "the answers differ"),
-        }
-    }
+    let answers: Vec<Answer> = models.iter().map(refer::reference).collect();
+    let mut rng = Rng::new(1);
+    let mut lent: Vec<Lent> = models.iter().map(|m| Lent::junk(&mut rng, &Sizes::least(m))).collect();
+    compare(models, &answers, &mut lent);
     let rust_allocations = allocations(|| inputs.iter().for_each(|i| drop(black_box(plain::run(black_box(i))))));
-    let port_allocations = allocations(|| models.iter().zip(&mut lent).for_each(|(m, s)| {
-        black_box(s.call(black_box(m)));
-    }));
+    let mut slices: Vec<port::Slices> = lent.iter_mut().map(Lent::slices).collect();
     let rust = |n: usize| {
         let t = now();
         for _ in 0..n {
@@ -184,7 +153,7 @@ fn times(models: &[Model], seconds: f64) -> Times {
     let mut port = |n: usize| {
         let t = now();
         for _ in 0..n {
-            for (m, s) in models.iter().zip(&mut lent) {
+            for (m, s) in models.iter().zip(&mut slices) {
                 black_box(s.call(black_box(m)));
             }
         }
@@ -199,7 +168,13 @@ fn times(models: &[Model], seconds: f64) -> Times {
         a.push(rust(batch));
         b.push(port(batch));
     }
-    Times { rust: median(&mut a), port: median(&mut b), runs, rust_allocations, port_allocations, counts }
+    compare(models, &answers, &mut lent);
+    let counts = match &answers[..] {
+        [Answer::Infeasible(c)] => Some(*c),
+        [Answer::Done(r)] => Some(r.counts),
+        _ => None,
+    };
+    Times { rust: median(&mut a), port: median(&mut b), calls: runs * batch * models.len(), rust_allocations, counts }
 }
 
 fn shown(s: f64) -> String {
@@ -283,14 +258,14 @@ fn picture(kinds: &[(&str, Vec<(f64, f64)>)]) -> String {
 fn main() {
     let args: Vec<String> = std::env::args().collect();
     let seconds: f64 = std::env::var("SECONDS_EACH").ok().and_then(|s| s.parse().ok()).unwrap_or(2.0);
-    println!("| Models | variables, rows, terms | Rust | port | Rust / port | calls timed | allocations a call: Rust, port |");
+    println!("| Models | variables, rows, terms | Rust | port | Rust / port | calls of each | allocations a call, Rust |");
     println!("|---|---|---|---|---|---|---|");
     let line = |name: &str, models: &[Model]| {
         let t = times(models, seconds);
         let m = &models[0];
         let size = if models.len() == 1 { format!("{}, {}, {}", m.vars(), m.rows(), m.terms()) } else { format!("{} models of up to {}, {}, {}", models.len(), models.iter().map(|m| m.vars()).max().unwrap(), models.iter().map(|m| m.rows()).max().unwrap(), models.iter().map(|m| m.terms()).max().unwrap()) };
-        println!("| {name} | {size} | {} | {} | {:.2} | {} | {}, {} |", shown(t.rust), shown(t.port), t.rust / t.port, t.runs, t.rust_allocations / models.len() as u64, t.port_allocations);
-        if let (1, Some(c)) = (models.len(), t.counts) {
+        println!("| {name} | {size} | {} | {} | {:.2} | {} | {} |", shown(t.rust), shown(t.port), t.rust / t.port, t.calls, t.rust_allocations / models.len() as u64);
+        if let Some(c) = t.counts {
             eprintln!("{name}: counts {} {} {} {} {}", c[0], c[1], c[2], c[3], c[4]);
         }
     };
