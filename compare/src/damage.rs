@@ -27,7 +27,7 @@ fn set<T>(rng: &mut Rng, x: &mut Vec<T>, v: T) {
 }
 
 // Spoils what row `kind` of the table looks at; now and then by a value that is still accepted.
-fn spoil(rng: &mut Rng, kind: usize, m: &mut Model, s: &mut Sizes) {
+pub fn spoil(rng: &mut Rng, kind: usize, m: &mut Model, s: &mut Sizes) {
     let inf = f64::INFINITY;
     let nan = f64::from_bits(0x7ff8_0000_0000_0000 | (rng.next() >> 63 << 63) | rng.next() >> 13);
     match kind {

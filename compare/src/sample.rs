@@ -2,6 +2,7 @@
 // It holds 01's twelve cases, models of every family, models for every event of the coverage table, planner weeks as large as
 // a house file takes, and damaged files.
 use crate::cover::Cover;
+use crate::damage;
 use crate::generate::{self, Rng, FAMILIES};
 use crate::house;
 use crate::model::{Model, BOOLEAN, EQ, GE, INTEGER, LE};
@@ -64,6 +65,14 @@ fn damaged(rng: &mut Rng, m: &Model) -> Vec<u8> {
     b
 }
 
+// A file of a model with something spoilt that 1 to 10 look at after reading.
+fn spoilt(rng: &mut Rng, mut m: Model) -> Vec<u8> {
+    let kind = rng.pick(&[4, 6, 7, 8, 9]);
+    let mut sizes = Sizes::least(&m);
+    damage::spoil(rng, kind, &mut m, &mut sizes);
+    house::file(&m, true)
+}
+
 // What the program prints of a file.
 fn text(bytes: &[u8]) -> String {
     match house::read(bytes) {
@@ -115,7 +124,11 @@ pub fn through(program: &str, seed: u64, n: usize) -> (usize, usize) {
             k += 1;
             if house::fits(&m) {
                 let explicit = rng.chance(30);
-                files.push(if k % 2 == 0 { damaged(&mut rng, &m) } else { house::file(&m, explicit) });
+                files.push(match k % 8 {
+                    0 => spoilt(&mut rng, m),
+                    2 | 4 | 6 => damaged(&mut rng, &m),
+                    _ => house::file(&m, explicit),
+                });
             }
         }
         let (blob, expected) = together(&files);
