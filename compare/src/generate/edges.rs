@@ -40,7 +40,7 @@ pub fn sliver(rng: &mut Rng, most: usize) -> Model {
 }
 
 // The tolerance t of x's far bound, times a, is just a number, and a times x's working bound, between t and 2t, is none.
-pub fn sliver_at_the_top(rng: &mut Rng) -> Model {
+fn sliver_at_the_top(rng: &mut Rng) -> Model {
     let mut m = Model::new(rng.pick(&[0, 1, 2]), rng.pick(&[1e-6, 0.0]), 1e-9);
     let a = rng.pick(&[1e150, 3e120, 1e200]);
     let t = f64::MAX / a * rng.pick(&[0.8, 0.9, 0.99, 0.6]);

@@ -45,7 +45,7 @@ pub fn given_back(rng: &mut Rng, most: usize) -> Model {
 
 // A row of two binaries and a variable that dual fixing takes: the first binary is rewritten in the first round, the second in
 // the second, when what the row was given no longer adds up to a number.
-pub fn given_back_later(rng: &mut Rng) -> Model {
+fn given_back_later(rng: &mut Rng) -> Model {
     let ge = rng.chance(50);
     let sign = if ge { -1.0 } else { 1.0 };
     let unit = rng.pick(&[3.3e307, 3.4e307, 3.5e307, 3.55e307, 3.6e307, 3.2e307]) * sign;
