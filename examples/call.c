@@ -12,10 +12,10 @@
 
 enum { VARS = 2, ROWS = 1, TERMS = 2 };
 
-/* Lent to every call. The working slices may hold anything. */
+/* Lent to every call. They may hold anything. */
 static double out_lower[VARS], out_upper[VARS], emit_rhs[ROWS], term_coeff[TERMS];
 static size_t emit_row[ROWS], emit_from[ROWS], emit_upto[ROWS], kept[ROWS], term_index[TERMS];
-static bool emit_rewritten[ROWS];
+static uint8_t emit_rewritten[ROWS];
 static double floats[PRESOLVE_FLOATS(VARS, ROWS, TERMS)];
 static size_t numbers[PRESOLVE_NUMBERS(VARS, ROWS, TERMS)];
 static size_t adjacency[PRESOLVE_ADJACENCY(VARS, ROWS, TERMS)];
@@ -40,6 +40,7 @@ static void print_counts(void) {
 int main(void) {
     memset(floats, 0xff, sizeof floats);
     memset(numbers, 0xff, sizeof numbers);
+    memset(emit_rewritten, 0xff, sizeof emit_rewritten);
     int code = call(3, 1, PRESOLVE_LE, 10, PRESOLVE_ANSWER);
     printf("3u + w <= 10: %d\n", code);
     print_counts();

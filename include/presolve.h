@@ -4,19 +4,17 @@
  *     cc -I include program.c target/staticlib/libpresolve_c.a
  *
  * include/presolve.rs says the same for Rust. The library allocates nothing, keeps nothing between calls and calls only
- * memset. It runs on x86-64 Linux, where size_t has 64 bits and bool is one byte.
+ * memset. It runs on x86-64 Linux, where size_t has 64 bits.
  *
  * Every slice is a pointer and a count of entries. The caller's duties, which no refusal checks:
  *   - a pointer is not null and is aligned for its entries, also where the count is 0;
  *   - that many entries can be read, and of a slice that is not const written;
- *   - no slice that is not const overlaps another slice;
- *   - each byte of emit_rewritten is 0 or 1.
- * All else is refused by number, whatever the entries are.
+ *   - no slice that is not const overlaps another slice.
+ * All else is refused by number, whatever the entries are; what is lent may hold any bytes.
  */
 #ifndef PRESOLVE_H
 #define PRESOLVE_H
 
-#include <stdbool.h>
 #include <stddef.h>
 #include <stdint.h>
 
@@ -28,6 +26,7 @@ extern "C" {
 enum { PRESOLVE_INTEGER = 0, PRESOLVE_REAL = 1, PRESOLVE_BOOLEAN = 2 };     /* domains */
 enum { PRESOLVE_EQ = 0, PRESOLVE_LE = 1, PRESOLVE_GE = 2 };                 /* comparisons */
 enum { PRESOLVE_LP = 0, PRESOLVE_MIP = 1, PRESOLVE_MIP_DUAL = 2 };          /* modes: the last with dual fixing */
+enum { PRESOLVE_WRITTEN = 0, PRESOLVE_REWRITTEN = 1 };                      /* marks of emitted rows */
 
 /* The largest counts. */
 enum { PRESOLVE_MAX_VARS = 4096, PRESOLVE_MAX_ROWS = 8192, PRESOLVE_MAX_TERMS = 65536 };
@@ -78,8 +77,8 @@ enum {
  *
  * The result, written at the front of the slices lent:
  *   out_lower, out_upper              n entries: the reduced bounds
- *   emit_row .. emit_upto             r entries, the first answer[5] used: an emitted row's number, whether it was
- *                                     rewritten, its right side, and its terms' first place and the place after the last, in
+ *   emit_row .. emit_upto             r entries, the first answer[5] used: an emitted row's number, its mark, 0 written or
+ *                                     1 rewritten, its right side, and its terms' first place and the place after the last, in
  *                                     index and coeff, or, of a rewritten row, in term_index and term_coeff. A row keeps its
  *                                     comparison
  *   kept                              r entries, the first answer[7] used: rows that an answer is still to be checked against
@@ -107,7 +106,7 @@ uint8_t suedeonyx_presolve(
     double *out_lower, size_t out_lower_len,
     double *out_upper, size_t out_upper_len,
     size_t *emit_row, size_t emit_row_len,
-    bool *emit_rewritten, size_t emit_rewritten_len,
+    uint8_t *emit_rewritten, size_t emit_rewritten_len,
     double *emit_rhs, size_t emit_rhs_len,
     size_t *emit_from, size_t emit_from_len,
     size_t *emit_upto, size_t emit_upto_len,

@@ -21,7 +21,7 @@ extern "C" {
         out_lower: *mut f64, out_lower_len: usize,
         out_upper: *mut f64, out_upper_len: usize,
         emit_row: *mut usize, emit_row_len: usize,
-        emit_rewritten: *mut bool, emit_rewritten_len: usize,
+        emit_rewritten: *mut u8, emit_rewritten_len: usize,
         emit_rhs: *mut f64, emit_rhs_len: usize,
         emit_from: *mut usize, emit_from_len: usize,
         emit_upto: *mut usize, emit_upto_len: usize,
@@ -41,7 +41,7 @@ pub fn presolve(
     obj: &[f64], lower: &[f64], upper: &[f64], domain: &[u8], starts: &[usize], index: &[usize], coeff: &[f64], cmp: &[u8], rhs: &[f64],
     mode: u8, feas: f64, int_tol: f64,
     out_lower: &mut [f64], out_upper: &mut [f64],
-    emit_row: &mut [usize], emit_rewritten: &mut [bool], emit_rhs: &mut [f64], emit_from: &mut [usize], emit_upto: &mut [usize],
+    emit_row: &mut [usize], emit_rewritten: &mut [u8], emit_rhs: &mut [f64], emit_from: &mut [usize], emit_upto: &mut [usize],
     kept: &mut [usize], term_index: &mut [usize], term_coeff: &mut [f64],
     floats: &mut [f64], numbers: &mut [usize], adjacency: &mut [usize], answer: &mut [usize],
 ) -> u8 {

@@ -5,8 +5,8 @@ use crate::model::Model;
 use crate::part::Part;
 use crate::refusal::Sizes;
 
-// How an emitted row is marked rewritten.
-pub type Mark = bool;
+// How an emitted row is marked: 0 written, 1 rewritten.
+pub type Mark = u8;
 
 macro_rules! slices {
     ($($name:ident: $of:ty,)*) => {
@@ -97,7 +97,7 @@ impl Lent {
         let mut u = |n: usize| Part::new((0..n).map(|_| junk_number(rng)).collect());
         let (emit_row, emit_from, emit_upto, kept, term_index) = (u(s.emit_row), u(s.emit_from), u(s.emit_upto), u(s.kept), u(s.term_index));
         let (numbers, adjacency, answer) = (u(s.numbers), u(s.adjacency), u(s.answer));
-        let emit_rewritten = Part::new((0..s.emit_rewritten).map(|_| Mark::from(rng.chance(50))).collect());
+        let emit_rewritten = Part::new((0..s.emit_rewritten).map(|_| (rng.next() >> 56) as Mark).collect());
         Lent { lower, upper, emit_row, emit_rewritten, emit_rhs, emit_from, emit_upto, kept, term_index, term_coeff, floats, numbers, adjacency, answer }
     }
 }

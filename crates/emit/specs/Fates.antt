@@ -17,6 +17,7 @@ use Rattle.definition.specs.Bindings.{rewrittenBound}
 use Rattle.definition.specs.Emit.{Out, noOut, sortTerms, keepRow, emitWritten, emitRewritten, outRow}
 use Rattle.view.specs.Lists.{yes, no, either}
 use Rattle.emit.specs.Settled.{outSettled, outOf}
+use Rattle.emit.specs.RowMark.{mark}
 
 unfoldable pub isKept : ℕ → Bool
 isKept c = eqb c 1 || ltb 2 c
@@ -120,6 +121,9 @@ outAt cs r = isOut (getD cs r 0)
 abbrev pub rewrittenAt : List ℕ → ℕ → Bool
 rewrittenAt cs r = isRewritten (getD cs r 0)
 
+abbrev pub markAt : List ℕ → ℕ → ℕ
+markAt cs r = mark (rewrittenAt cs r)
+
 -- the row's number
 abbrev pub self : ℕ → ℕ
 self r = r
@@ -152,7 +156,7 @@ pub record Lists (M : Model) (cs : List ℕ) (bs : List Float) (rows : List Row)
   pub kept : o .kept ≡ collect (keptAt cs) self n
   pub terms : o .terms ≡ termsOf cs rows n
   pub row : map (λ (e : Emit). e .row) (o .emitted) ≡ collect (outAt cs) self n
-  pub rewritten : map (λ (e : Emit). e .rewritten) (o .emitted) ≡ collect (outAt cs) (rewrittenAt cs) n
+  pub rewritten : map (λ (e : Emit). mark (e .rewritten)) (o .emitted) ≡ collect (outAt cs) (markAt cs) n
   pub rhs : map (λ (e : Emit). e .rhs) (o .emitted) ≡ collect (outAt cs) (sideAt cs bs (M .rhs)) n
   pub from : map (λ (e : Emit). e .from) (o .emitted) ≡ collect (outAt cs) (fromAt cs rows (M .starts)) n
   pub upto : map (λ (e : Emit). e .upto) (o .emitted) ≡ collect (outAt cs) (uptoAt cs rows (M .starts)) n
@@ -210,7 +214,7 @@ module _ {M : Model} {cs : List ℕ} {bs : List Float} {rows : List Row} {r : �
         kept = none-more (keptAt cs) self k (L .kept);
         terms = terms-same w;
         row = none-more (outAt cs) self u (L .row);
-        rewritten = none-more (outAt cs) (rewrittenAt cs) u (L .rewritten);
+        rewritten = none-more (outAt cs) (markAt cs) u (L .rewritten);
         rhs = none-more (outAt cs) (sideAt cs bs (M .rhs)) u (L .rhs);
         from = none-more (outAt cs) (fromAt cs rows (M .starts)) u (L .from);
         upto = none-more (outAt cs) (uptoAt cs rows (M .starts)) u (L .upto);
@@ -222,7 +226,7 @@ module _ {M : Model} {cs : List ℕ} {bs : List Float} {rows : List Row} {r : �
         kept = more (keptAt cs) self k (L .kept) refl refl;
         terms = terms-same w;
         row = none-more (outAt cs) self u (L .row);
-        rewritten = none-more (outAt cs) (rewrittenAt cs) u (L .rewritten);
+        rewritten = none-more (outAt cs) (markAt cs) u (L .rewritten);
         rhs = none-more (outAt cs) (sideAt cs bs (M .rhs)) u (L .rhs);
         from = none-more (outAt cs) (fromAt cs rows (M .starts)) u (L .from);
         upto = none-more (outAt cs) (uptoAt cs rows (M .starts)) u (L .upto);
@@ -234,7 +238,7 @@ module _ {M : Model} {cs : List ℕ} {bs : List Float} {rows : List Row} {r : �
         kept = none-more (keptAt cs) self k (L .kept);
         terms = terms-same w;
         row = more (outAt cs) self u (L .row) (map-snoc (λ (e : Emit). e .row) (o .emitted) _) refl;
-        rewritten = more (outAt cs) (rewrittenAt cs) u (L .rewritten) (map-snoc (λ (e : Emit). e .rewritten) (o .emitted) _) (sym w);
+        rewritten = more (outAt cs) (markAt cs) u (L .rewritten) (map-snoc (λ (e : Emit). mark (e .rewritten)) (o .emitted) _) (ap mark (sym w));
         rhs = more (outAt cs) (sideAt cs bs (M .rhs)) u (L .rhs) (map-snoc (λ (e : Emit). e .rhs) (o .emitted) _) (side-written w);
         from = more (outAt cs) (fromAt cs rows (M .starts)) u (L .from) (map-snoc (λ (e : Emit). e .from) (o .emitted) _) (from-written w);
         upto = more (outAt cs) (uptoAt cs rows (M .starts)) u (L .upto) (map-snoc (λ (e : Emit). e .upto) (o .emitted) _) (upto-written w);
@@ -247,7 +251,7 @@ module _ {M : Model} {cs : List ℕ} {bs : List Float} {rows : List Row} {r : �
         kept = more (keptAt cs) self k (L .kept) refl refl;
         terms = terms-more w;
         row = more (outAt cs) self u (L .row) (map-snoc (λ (e : Emit). e .row) (o .emitted) _) refl;
-        rewritten = more (outAt cs) (rewrittenAt cs) u (L .rewritten) (map-snoc (λ (e : Emit). e .rewritten) (o .emitted) _) (sym w);
+        rewritten = more (outAt cs) (markAt cs) u (L .rewritten) (map-snoc (λ (e : Emit). mark (e .rewritten)) (o .emitted) _) (ap mark (sym w));
         rhs = more (outAt cs) (sideAt cs bs (M .rhs)) u (L .rhs) (map-snoc (λ (e : Emit). e .rhs) (o .emitted) _) (side-rewritten w);
         from = more (outAt cs) (fromAt cs rows (M .starts)) u (L .from) (map-snoc (λ (e : Emit). e .from) (o .emitted) _) (from-rewritten w);
         upto = more (outAt cs) (uptoAt cs rows (M .starts)) u (L .upto) (map-snoc (λ (e : Emit). e .upto) (o .emitted) _) (upto-rewritten w);

@@ -1,6 +1,7 @@
 -- The end of presolve: the definition's pass as two, the fates of rows, and what the writers leave.
 pub mod Settled
 pub mod Sorted
+pub mod RowMark
 pub mod Fates
 pub mod Filling
 pub mod Same

@@ -1,12 +1,14 @@
-// The rows that are emitted: their numbers, whether each is rewritten, and their right sides.
+// The rows that are emitted: their numbers, their marks, and their right sides.
 ghost use mathlib.Core.Path.{_≡_};
 ghost use Prim.Native.Nat.{_≤_, _<_};
 ghost use lib.ListN.{length, getD};
 ghost use Rattle.space.specs.Store.{floatsOf, numbersOf, HoldsF, HoldsN};
-ghost use Rattle.emit.specs.Fates.{isOut, isRewritten, outAt, rewrittenAt, sideAt, self};
+ghost use Rattle.emit.specs.Fates.{isOut, isRewritten, outAt, markAt, sideAt, self};
+ghost use Rattle.emit.specs.RowMark.{mark};
 ghost use Rattle.emit.specs.Filling.{PutIf, Filled};
 use crate::fates::is_out;
 use crate::fates::is_rewritten;
+use crate::fates::mark_of;
 use space::Shape;
 
 // Row r follows the n emitted rows, if it is emitted. How many with it.
@@ -16,26 +18,26 @@ fn emit_row(
     r: usize,
     n: usize,
     row: &mut [usize],
-    rewritten: &mut [bool],
+    rewritten: &mut [u8],
 ) -> usize
     requires { ⌜ (r < s .rows) × HoldsN s (now m) × (n < length (now row)) × (n < length (now rewritten)) ⌝ }
     ensures { λ z. ⌜ PutIf (isOut (getD (numbersOf s (now (m .entry)) .fate) r 0)) r n (now (row .entry)) (now (row .exit)) z ⌝ }
-    ensures { λ z. ⌜ PutIf (isOut (getD (numbersOf s (now (m .entry)) .fate) r 0)) (isRewritten (getD (numbersOf s (now (m .entry)) .fate) r 0)) n (now (rewritten .entry)) (now (rewritten .exit)) z ⌝ }
+    ensures { λ z. ⌜ PutIf (isOut (getD (numbersOf s (now (m .entry)) .fate) r 0)) (mark (isRewritten (getD (numbersOf s (now (m .entry)) .fate) r 0))) n (now (rewritten .entry)) (now (rewritten .exit)) z ⌝ }
 {
     let fate = space::get_fate(m, s, r);
     if is_out(fate) {
         row[n] = r;
-        rewritten[n] = is_rewritten(fate);
+        rewritten[n] = mark_of(fate);
         return n + 1;
     }
     n
 }
 
 // = row and rewritten of emitted, at the front of the slices. How many there are.
-pub fn write_emitted(m: &[usize], s: Shape, row: &mut [usize], rewritten: &mut [bool]) -> usize
+pub fn write_emitted(m: &[usize], s: Shape, row: &mut [usize], rewritten: &mut [u8]) -> usize
     requires { ⌜ HoldsN s (now m) × (s .rows ≤ length (now row)) × (s .rows ≤ length (now rewritten)) ⌝ }
     ensures { λ z. ⌜ Filled (outAt (numbersOf s (now (m .entry)) .fate)) self (s .rows) (now (row .entry)) (now (row .exit)) z ⌝ }
-    ensures { λ z. ⌜ Filled (outAt (numbersOf s (now (m .entry)) .fate)) (rewrittenAt (numbersOf s (now (m .entry)) .fate)) (s .rows) (now (rewritten .entry)) (now (rewritten .exit)) z ⌝ }
+    ensures { λ z. ⌜ Filled (outAt (numbersOf s (now (m .entry)) .fate)) (markAt (numbersOf s (now (m .entry)) .fate)) (s .rows) (now (rewritten .entry)) (now (rewritten .exit)) z ⌝ }
 {
     let mut n: usize = 0;
     let mut r: usize = 0;

@@ -2,6 +2,7 @@
 // 3 emitted rewritten and kept.
 ghost use mathlib.Core.Path.{_≡_};
 ghost use Rattle.emit.specs.Fates as fates;
+ghost use Rattle.emit.specs.RowMark.{mark};
 
 // Whether a row of this fate is kept for validation.
 pub fn is_kept(fate: usize) -> bool
@@ -25,4 +26,14 @@ pub fn is_rewritten(fate: usize) -> bool
     ensures { λ z. ⌜ z ≡ fates.isRewritten fate ⌝ }
 {
     fate > 2
+}
+
+// Its mark, where it is emitted: 0 written, 1 rewritten.
+pub fn mark_of(fate: usize) -> u8
+    ensures { λ z. ⌜ z ≡ mark (fates.isRewritten fate) ⌝ }
+{
+    if is_rewritten(fate) {
+        return 1;
+    }
+    0
 }

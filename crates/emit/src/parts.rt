@@ -2,6 +2,7 @@
 ghost use mathlib.Core.Path.{_≡_};
 ghost use lib.Seq.{slice};
 ghost use Rattle.floats.specs.Num.{choose};
+ghost use Rattle.emit.specs.RowMark.{marked};
 ghost use Rattle.emit.specs.Parts.{Least};
 
 // The smaller of two numbers.
@@ -36,13 +37,13 @@ fn coeffs_at<'a>(l: &'a [f64], from: usize, upto: usize) -> &'a [f64]
 pub fn row_vars<'a>(
     index: &'a [usize],
     rewritten_index: &'a [usize],
-    rewritten: bool,
+    mark: u8,
     from: usize,
     upto: usize,
 ) -> &'a [usize]
-    ensures { λ z. ⌜ now z ≡ slice from upto (choose rewritten (now («rewritten_index» .entry)) (now (index .entry))) ⌝ }
+    ensures { λ z. ⌜ now z ≡ slice from upto (choose (marked mark) (now («rewritten_index» .entry)) (now (index .entry))) ⌝ }
 {
-    if rewritten {
+    if mark != 0 {
         return vars_at(rewritten_index, from, upto);
     }
     vars_at(index, from, upto)
@@ -52,13 +53,13 @@ pub fn row_vars<'a>(
 pub fn row_coeffs<'a>(
     coeff: &'a [f64],
     rewritten_coeff: &'a [f64],
-    rewritten: bool,
+    mark: u8,
     from: usize,
     upto: usize,
 ) -> &'a [f64]
-    ensures { λ z. ⌜ now z ≡ slice from upto (choose rewritten (now («rewritten_coeff» .entry)) (now (coeff .entry))) ⌝ }
+    ensures { λ z. ⌜ now z ≡ slice from upto (choose (marked mark) (now («rewritten_coeff» .entry)) (now (coeff .entry))) ⌝ }
 {
-    if rewritten {
+    if mark != 0 {
         return coeffs_at(rewritten_coeff, from, upto);
     }
     coeffs_at(coeff, from, upto)

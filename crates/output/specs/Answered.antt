@@ -2,7 +2,6 @@
 use Prim.Native.Nat.{ℕ, _≤_}
 use native.Mathlib.Omega.{arith}
 use mathlib.Core.Path.{_≡_, ap, sym, _∙_, subst}
-use mathlib.Core.Bool.{Bool}
 use mathlib.Core.List.{List}
 use lib.ListN.{length}
 use lib.Ieee.{Float}
@@ -82,7 +81,7 @@ module _ {M : Model} {s : Shape} {f : Floats} {n : Numbers} {o : List ℕ} {k : 
   unfolding written
   lists-are b =
       all-ten (ap (λ (l : List Float). over l (b .lower)) (h .elo)) (ap (λ (l : List Float). over l (b .upper)) (h .ehi))
-      (ap (λ (l : List ℕ). over l (b .emitRow)) (sym (out-now .row))) (ap (λ (l : List Bool). over l (b .emitRewritten)) (sym (out-now .rewritten)))
+      (ap (λ (l : List ℕ). over l (b .emitRow)) (sym (out-now .row))) (ap (λ (l : List ℕ). over l (b .emitRewritten)) (sym (out-now .rewritten)))
       (ap (λ (l : List Float). over l (b .emitRhs)) (sym (out-now .rhs))) (ap (λ (l : List ℕ). over l (b .emitFrom)) (sym (out-now .from)))
       (ap (λ (l : List ℕ). over l (b .emitUpto)) (sym (out-now .upto))) (ap (λ (l : List ℕ). over l (b .kept)) (sym (out-now .kept)))
       (ap (λ (l : List Term). over (varsOf l) (b .termIndex)) (sym (out-now .terms))) (ap (λ (l : List Term). over (coeffsOf l) (b .termCoeff)) (sym (out-now .terms)))

@@ -1,11 +1,11 @@
 -- The caller's ten result slices, and what an answer of the definition is in them.
 use Prim.Native.Nat.{ℕ, _≤_}
-use mathlib.Core.Bool.{Bool}
 use mathlib.Core.List.{List, map}
 use lib.ListN.{length}
 use lib.Ieee.{Float}
 use Rattle.definition.specs.Model.{Emit, Reduced}
 use Rattle.space.specs.declared.Shape.{Shape}
+use Rattle.emit.specs.RowMark.{mark}
 use Rattle.emit.specs.Filling.{over}
 use Rattle.emit.specs.Terms.{varsOf, coeffsOf}
 
@@ -13,7 +13,7 @@ pub record Results : Type 0 where
   pub lower : List Float
   pub upper : List Float
   pub emitRow : List ℕ
-  pub emitRewritten : List Bool
+  pub emitRewritten : List ℕ
   pub emitRhs : List Float
   pub emitFrom : List ℕ
   pub emitUpto : List ℕ
@@ -21,7 +21,7 @@ pub record Results : Type 0 where
   pub termIndex : List ℕ
   pub termCoeff : List Float
 
-abbrev pub results : List Float → List Float → List ℕ → List Bool → List Float → List ℕ → List ℕ → List ℕ → List ℕ → List Float → Results
+abbrev pub results : List Float → List Float → List ℕ → List ℕ → List Float → List ℕ → List ℕ → List ℕ → List ℕ → List Float → Results
 results l u r m b a e k i c = record { lower = l; upper = u; emitRow = r; emitRewritten = m; emitRhs = b; emitFrom = a; emitUpto = e; kept = k; termIndex = i; termCoeff = c }
 
 -- each has as many entries as there are variables, rows or terms
@@ -44,7 +44,7 @@ written a b =
       lower = over (a .lower) (b .lower);
       upper = over (a .upper) (b .upper);
       emitRow = over (map (λ (e : Emit). e .row) (a .emitted)) (b .emitRow);
-      emitRewritten = over (map (λ (e : Emit). e .rewritten) (a .emitted)) (b .emitRewritten);
+      emitRewritten = over (map (λ (e : Emit). mark (e .rewritten)) (a .emitted)) (b .emitRewritten);
       emitRhs = over (map (λ (e : Emit). e .rhs) (a .emitted)) (b .emitRhs);
       emitFrom = over (map (λ (e : Emit). e .from) (a .emitted)) (b .emitFrom);
       emitUpto = over (map (λ (e : Emit). e .upto) (a .emitted)) (b .emitUpto);

@@ -11,12 +11,13 @@ use Rattle.tolerances.specs.Tol.{Term, term, at}
 use Rattle.definition.specs.declared.Counts.{Counts}
 use Rattle.definition.specs.Model.{Model, Emit, Reduced}
 use Rattle.view.specs.Lists.{length-map}
+use Rattle.emit.specs.RowMark.{mark, marked, marked-mark}
 use Rattle.emit.specs.Filling.{over}
 use Rattle.output.specs.Results.{Results, written}
 
 -- ---- the n entries from place i on: the number, the mark, the right side and the span stand in five slices
 unfoldable pub entryAt : Results → ℕ → Emit
-entryAt b i = record { row = getD (b .emitRow) i 0; rewritten = getD (b .emitRewritten) i false; rhs = at (b .emitRhs) i; from = getD (b .emitFrom) i 0; upto = getD (b .emitUpto) i 0 }
+entryAt b i = record { row = getD (b .emitRow) i 0; rewritten = marked (getD (b .emitRewritten) i 0); rhs = at (b .emitRhs) i; from = getD (b .emitFrom) i 0; upto = getD (b .emitUpto) i 0 }
 
 unfoldable pub entriesFrom : Results → ℕ → ℕ → List Emit
 entriesFrom b zero i = []
@@ -56,11 +57,12 @@ front-at : {A B : Type 0} (g : A → B) (l : List A) (old : List B) (i : ℕ) (d
 front-at g l old i d p = List·getD-append (map g l) _ (g d) i (omega (arith, p, length-map g l)) ∙ List·getD-map g l i d
 
 entry-is : (a : Reduced) (b : Results) (i : ℕ) → i < length (a .emitted) → entryAt (written a b) i ≡ getD (a .emitted) i noEntry
-unfolding entryAt written
+unfolding entryAt written mark
 entry-is a b i p =
     rw (
       front-at (λ (e : Emit). e .row) (a .emitted) (b .emitRow) i noEntry p,
-      front-at (λ (e : Emit). e .rewritten) (a .emitted) (b .emitRewritten) i noEntry p,
+      front-at (λ (e : Emit). mark (e .rewritten)) (a .emitted) (b .emitRewritten) i noEntry p,
+      marked-mark (getD (a .emitted) i noEntry .rewritten),
       front-at (λ (e : Emit). e .rhs) (a .emitted) (b .emitRhs) i noEntry p,
       front-at (λ (e : Emit). e .from) (a .emitted) (b .emitFrom) i noEntry p,
       front-at (λ (e : Emit). e .upto) (a .emitted) (b .emitUpto) i noEntry p,

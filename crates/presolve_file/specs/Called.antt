@@ -12,6 +12,7 @@ use Rattle.definition.specs.Model.{Model, Emit, done}
 use Rattle.definition.specs.Presolve.{presolve}
 use Rattle.definition.specs.Refusal.{Lent, refusal}
 use Rattle.definition.specs.RowsKept.Theorems.{bounds-lengths}
+use Rattle.emit.specs.RowMark.{mark}
 use Rattle.emit.specs.Filling.{over}
 use Rattle.output.specs.declared.Reduced.{Reduced}
 use Rattle.output.specs.Results.{Results, written}
@@ -66,7 +67,7 @@ module _ (x : Reduced) (lowers uppers : ℕ) (a : definition.Reduced) (b : Resul
         lower = there _ (a .lower) (b .lower) (s .lower);
         upper = there _ (a .upper) (b .upper) (s .upper);
         row = entries-there (λ (e : Emit). e .row) (b .emitRow);
-        rewritten = entries-there (λ (e : Emit). e .rewritten) (b .emitRewritten);
+        rewritten = entries-there (λ (e : Emit). mark (e .rewritten)) (b .emitRewritten);
         rhs = entries-there (λ (e : Emit). e .rhs) (b .emitRhs);
         from = entries-there (λ (e : Emit). e .from) (b .emitFrom);
         upto = entries-there (λ (e : Emit). e .upto) (b .emitUpto);
@@ -82,7 +83,7 @@ module _ (x : Reduced) (lowers uppers : ℕ) (a : definition.Reduced) (b : Resul
         front _ (a .lower) (b .lower) (s .lower),
         front _ (a .upper) (b .upper) (s .upper),
         entries-are (λ (e : Emit). e .row) (b .emitRow),
-        entries-are (λ (e : Emit). e .rewritten) (b .emitRewritten),
+        entries-are (λ (e : Emit). mark (e .rewritten)) (b .emitRewritten),
         entries-are (λ (e : Emit). e .rhs) (b .emitRhs),
         entries-are (λ (e : Emit). e .from) (b .emitFrom),
         entries-are (λ (e : Emit). e .upto) (b .emitUpto),

@@ -1,7 +1,6 @@
 -- The printed text of a call's answer, read from the fronts of the result slices: it is the text of the definition's answer.
 use Prim.Native.Nat.{ℕ, _-_, _≤_}
 use mathlib.Core.Path.{_≡_, refl, sym, _∙_}
-use mathlib.Core.Bool.{Bool}
 use mathlib.Core.List.{List}
 use lib.ListN.{length, take}
 use lib.Ieee.{Float}
@@ -73,7 +72,7 @@ module _ {z : Answer} (lowers uppers : ℕ) (b : Results) where
   refused-text e = rw e
 
   pub infeasible-text : {k : definition.Counts} {m : Counts} → z ≡ Infeasible k → m ≡ countsOf k
-      → (vars : ℕ) (lower upper : List Float) (emitted : ℕ) (row : List ℕ) (rewritten : List Bool) (rhs : List Float) (from upto index : List ℕ) (coeff : List Float) (validated : ℕ) (kept : List ℕ)
+      → (vars : ℕ) (lower upper : List Float) (emitted : ℕ) (row : List ℕ) (rewritten : List ℕ) (rhs : List Float) (from upto index : List ℕ) (coeff : List Float) (validated : ℕ) (kept : List ℕ)
       → answerText Kind.Infeasible m vars lower upper emitted row rewritten rhs from upto index coeff validated kept ≡ callText z lowers uppers b
   unfolding callText infeasibleText followed
   infeasible-text e q vars lower upper emitted row rewritten rhs from upto index coeff validated kept =

@@ -20,6 +20,7 @@ use Rattle.definition.specs.RowsKept.Theorems.{waves-bounded, waves-bounded-inf
 use Rattle.space.specs.declared.Shape.{Shape}
 use Rattle.view.specs.Call.{Call}
 use Rattle.refuse.specs.Accepted.{call-of}
+use Rattle.emit.specs.RowMark.{mark}
 use Rattle.emit.specs.Terms.{varsOf, coeffsOf}
 use Rattle.tally.specs.Theorem.{CountsFit, Fits, counts-fit, fits-infeasible, fits-done}
 use Rattle.model_file.specs.Format.{Lists, Decoded, refusal, file, decode}
@@ -52,20 +53,20 @@ short-vars (each p h) (suc i) = short-vars h i
 module _ (index : List ℕ) (coeff : List Float) where
   abbrev entriesText : List Emit → List ℕ
   entriesText es =
-      rowTexts (length es) (map (λ (e : Emit). e .row) es) (map (λ (e : Emit). e .rewritten) es) (map (λ (e : Emit). e .rhs) es) (map (λ (e : Emit). e .from) es) (map (λ (e : Emit). e .upto) es)
+      rowTexts (length es) (map (λ (e : Emit). e .row) es) (map (λ (e : Emit). mark (e .rewritten)) es) (map (λ (e : Emit). e .rhs) es) (map (λ (e : Emit). e .from) es) (map (λ (e : Emit). e .upto) es)
       index coeff
 
   abbrev entryText : Emit → List ℕ
-  entryText e = rowText (e .row) (e .rewritten) (e .rhs) (e .from) (e .upto) index coeff
+  entryText e = rowText (e .row) (mark (e .rewritten)) (e .rhs) (e .from) (e .upto) index coeff
 
   entries-cons : (e : Emit) (es : List Emit) → length (entriesText (e ∷ es)) ≡ length (entryText e) + length (entriesText es)
   entries-cons e es =
-      rw (rows-cons index coeff (length es) (e .row) (map (λ (x : Emit). x .row) es) (e .rewritten) (map (λ (x : Emit). x .rewritten) es) (e .rhs) (map (λ (x : Emit). x .rhs) es) (e .from) (map (λ (x : Emit). x .from) es) (e .upto) (map (λ (x : Emit). x .upto) es))
+      rw (rows-cons index coeff (length es) (e .row) (map (λ (x : Emit). x .row) es) (mark (e .rewritten)) (map (λ (x : Emit). mark (x .rewritten)) es) (e .rhs) (map (λ (x : Emit). x .rhs) es) (e .from) (map (λ (x : Emit). x .from) es) (e .upto) (map (λ (x : Emit). x .upto) es))
       (length-append (entryText e) (entriesText es))
 
   -- their terms stand from n to m
   entries-length : {m n : ℕ} {es : List Emit} → Short index → Consecutive m n es → Short (rowsOf es) → length (entriesText es) + n * 26 ≤ length es * 36 + m * 26
-  unfolding rowsOf
+  unfolding rowsOf mark
   entries-length v noSpan h = rw (rows-none index coeff) (omega arith)
   entries-length v (skips {e = e} {es} f c) h =
       let w : length (entryText e) ≤ 36 = rw f (written-length (e .row) (e .rhs) (e .from) (e .upto) index coeff (h 0)) in

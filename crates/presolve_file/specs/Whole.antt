@@ -10,6 +10,7 @@ use Rattle.definition.specs.Model.{Model, Emit, Reduced, Answer, infeasible, do
 use Rattle.definition.specs.Presolve.{presolve}
 use Rattle.definition.specs.Refusal as call
 use Rattle.refuse.specs.Of.{modelOf}
+use Rattle.emit.specs.RowMark.{mark}
 use Rattle.emit.specs.Terms.{varsOf, coeffsOf}
 use Rattle.model_file.specs.Format.{Lists, Decoded, refusal, file, decode}
 use Rattle.model_file.specs.Longest.{first-bytes}
@@ -35,7 +36,7 @@ reducedText a =
     (a .upper)
     (length (a .emitted))
     (map (λ (e : Emit). e .row) (a .emitted))
-    (map (λ (e : Emit). e .rewritten) (a .emitted))
+    (map (λ (e : Emit). mark (e .rewritten)) (a .emitted))
     (map (λ (e : Emit). e .rhs) (a .emitted))
     (map (λ (e : Emit). e .from) (a .emitted))
     (map (λ (e : Emit). e .upto) (a .emitted))

@@ -45,7 +45,7 @@ fn presolve_model(
     let mut out_lower = [0.0f64; 128];
     let mut out_upper = [0.0f64; 128];
     let mut emit_row = [0usize; 128];
-    let mut emit_rewritten = [false; 128];
+    let mut emit_rewritten = [0u8; 128];
     let mut emit_rhs = [0.0f64; 128];
     let mut emit_from = [0usize; 128];
     let mut emit_upto = [0usize; 128];

@@ -3,6 +3,7 @@
 ghost use Prim.Native.Nat.{_≤_};
 use crate::look;
 use crate::look::JUNK;
+use crate::look::MARK;
 use crate::part;
 use crate::print;
 use presolve::Answer;
@@ -78,7 +79,7 @@ pub(crate) fn call(
     let mut x0 = [junk; 4100];
     let mut x1 = [junk; 4100];
     let mut x2 = [JUNK; 8196];
-    let mut x3 = [true; 8196];
+    let mut x3 = [MARK; 8196];
     let mut x4 = [junk; 8196];
     let mut x5 = [JUNK; 8196];
     let mut x6 = [JUNK; 8196];
@@ -101,7 +102,7 @@ pub(crate) fn call(
         part::floats_cut(&mut x0, less(v, short == 9)),
         part::floats_cut(&mut x1, less(v, short == 10)),
         part::numbers_cut(&mut x2, less(r, short == 11)),
-        part::flags_cut(&mut x3, less(r, short == 12)),
+        part::marks_cut(&mut x3, less(r, short == 12)),
         part::floats_cut(&mut x4, less(r, short == 13)),
         part::numbers_cut(&mut x5, less(r, short == 14)),
         part::numbers_cut(&mut x6, less(r, short == 15)),

@@ -2,8 +2,10 @@
 use crate::lend::Plan;
 use presolve::Answer;
 
-// The junk that lent numbers hold; lent flags hold true.
+// The junk that lent numbers and lent marks hold.
 pub(crate) const JUNK: usize = 18446744073709551615;
+
+pub(crate) const MARK: u8 = 165;
 
 // How far the result slices are written: bounds, emitted rows, their terms, and kept rows.
 fn used(a: Answer, vars: usize) -> [usize; 4] {
@@ -59,10 +61,10 @@ fn numbers_hold(s: &[usize], from: usize, zeros: usize) -> bool {
     true
 }
 
-fn flags_hold(s: &[bool], from: usize) -> bool {
+fn marks_hold(s: &[u8], from: usize) -> bool {
     let mut i = from;
     while i < s.len() {
-        if !s[i] {
+        if s[i] != MARK {
             return false;
         }
         i += 1;
@@ -77,7 +79,7 @@ pub(crate) fn results(
     x0: &[f64],
     x1: &[f64],
     x2: &[usize],
-    x3: &[bool],
+    x3: &[u8],
     x4: &[f64],
     x5: &[usize],
     x6: &[usize],
@@ -88,7 +90,7 @@ pub(crate) fn results(
     let u = used(a, p.vars);
     let junk = p.junk;
     let bounds = floats_hold(x0, u[0], 0, junk) & floats_hold(x1, u[0], 0, junk);
-    let rows = numbers_hold(x2, u[1], 0) & flags_hold(x3, u[1]) & floats_hold(x4, u[1], 0, junk);
+    let rows = numbers_hold(x2, u[1], 0) & marks_hold(x3, u[1]) & floats_hold(x4, u[1], 0, junk);
     let spans = numbers_hold(x5, u[1], 0) & numbers_hold(x6, u[1], 0);
     let kept = numbers_hold(x7, u[3], 0);
     let terms = numbers_hold(x8, u[2], 0) & floats_hold(x9, u[2], 0, junk);

@@ -22,6 +22,6 @@ pub(crate) fn numbers_cut(s: &mut [usize], n: usize) -> &mut [usize] {
     if n <= s.len() { &mut s[0..n] } else { s }
 }
 
-pub(crate) fn flags_cut(s: &mut [bool], n: usize) -> &mut [bool] {
+pub(crate) fn marks_cut(s: &mut [u8], n: usize) -> &mut [u8] {
     if n <= s.len() { &mut s[0..n] } else { s }
 }

@@ -1,7 +1,6 @@
 -- Worked texts: the first case, as it is printed, a rewritten row, an infeasible answer and a refusal.
 use mathlib.Core.Path.{_≡_, refl}
 use mathlib.Core.List.{[], _∷_}
-use mathlib.Core.Bool.{true, false}
 use lib.Ieee.{binary64, ofBits, toBits}
 use Rattle.floats.specs.Num.{choose}
 use Rattle.print_result.specs.declared.Kind.{Kind}
@@ -17,7 +16,7 @@ case-1 = refl
 
 -- row 10 as written, and row 127 rewritten, with the second and third term of the list
 pub rows :
-    rowTexts 2 (10 ∷ 127 ∷ []) (false ∷ true ∷ []) (ofBits binary64 0 ∷ ofBits binary64 0x4020_0000_0000_0000 ∷ []) (0 ∷ 1 ∷ []) (4 ∷ 3 ∷ []) (5 ∷ 0 ∷ 1 ∷ []) (ofBits binary64 0 ∷ ofBits binary64 0x3ff0_0000_0000_0000 ∷ ofBits binary64 0xbff0_0000_0000_0000 ∷ [])
+    rowTexts 2 (10 ∷ 127 ∷ []) (0 ∷ 1 ∷ []) (ofBits binary64 0 ∷ ofBits binary64 0x4020_0000_0000_0000 ∷ []) (0 ∷ 1 ∷ []) (4 ∷ 3 ∷ []) (5 ∷ 0 ∷ 1 ∷ []) (ofBits binary64 0 ∷ ofBits binary64 0x3ff0_0000_0000_0000 ∷ ofBits binary64 0xbff0_0000_0000_0000 ∷ [])
     ≡ ascii "emit 10 written\nemit 127 rewritten 4020000000000000\nterm 0 3ff0000000000000\nterm 1 bff0000000000000\n"
 unfolding choose ascii digit tens decimal hexDigits number bits writtenLine rewrittenLine termLine each fromTo termLines rowText rowTexts ofBits toBits
 rows = refl

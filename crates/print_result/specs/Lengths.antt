@@ -111,11 +111,11 @@ terms-length from upto index coeff h =
 
 -- ---- a row, and the rows one after the other
 module _ (r : ℕ) (rhs : Float) (from upto : ℕ) (index : List ℕ) (coeff : List Float) (p : r < 1000) where
-  pub written-length : length (rowText r false rhs from upto index coeff) ≤ 36
+  pub written-length : length (rowText r 0 rhs from upto index coeff) ≤ 36
   unfolding rowText choose
   written-length = omega (arith, written-line-length r p)
 
-  pub rewritten-length : Short index → length (rowText r true rhs from upto index coeff) ≤ 36 + (upto - from) * 26
+  pub rewritten-length : Short index → length (rowText r 1 rhs from upto index coeff) ≤ 36 + (upto - from) * 26
   unfolding rowText choose
   rewritten-length h =
       omega (arith, length-append (rewrittenLine r rhs) (termLines from upto index coeff), rewritten-line-length r rhs p, terms-length from upto index coeff h)
@@ -133,17 +133,17 @@ module _ (index : List ℕ) (coeff : List Float) where
   unfolding rowTexts fromTo each
   rows-none = refl
 
-  pub rows-cons : (n r : ℕ) (row : List ℕ) (b : Bool) (rewritten : List Bool) (x : Float) (rhs : List Float) (i : ℕ) (from : List ℕ) (e : ℕ) (upto : List ℕ)
-      → rowTexts (suc n) (r ∷ row) (b ∷ rewritten) (x ∷ rhs) (i ∷ from) (e ∷ upto) index coeff ≡ rowText r b x i e index coeff ++ rowTexts n row rewritten rhs from upto index coeff
+  pub rows-cons : (n r : ℕ) (row : List ℕ) (m : ℕ) (rewritten : List ℕ) (x : Float) (rhs : List Float) (i : ℕ) (from : List ℕ) (e : ℕ) (upto : List ℕ)
+      → rowTexts (suc n) (r ∷ row) (m ∷ rewritten) (x ∷ rhs) (i ∷ from) (e ∷ upto) index coeff ≡ rowText r m x i e index coeff ++ rowTexts n row rewritten rhs from upto index coeff
   unfolding rowTexts fromTo each
-  rows-cons n r row b rewritten x rhs i from e upto =
-      let f = rowAt (r ∷ row) (b ∷ rewritten) (x ∷ rhs) (i ∷ from) (e ∷ upto) index coeff in
+  rows-cons n r row m rewritten x rhs i from e upto =
+      let f = rowAt (r ∷ row) (m ∷ rewritten) (x ∷ rhs) (i ∷ from) (e ∷ upto) index coeff in
       let k = min n (min (min (length row) (min (length rewritten) (length rhs))) (min (length from) (length upto))) - 0 in
       let z : min (suc n) (min (min (suc (length row)) (min (suc (length rewritten)) (suc (length rhs)))) (min (suc (length from)) (suc (length upto)))) - 0 ≡ suc k = simp (min-sucs, sub-zero) in
-      ap (λ (m : ℕ). each f m 0) z ∙ ap (λ (l : List ℕ). f 0 ++ l) (each-shift f k 0)
+      ap (λ (j : ℕ). each f j 0) z ∙ ap (λ (l : List ℕ). f 0 ++ l) (each-shift f k 0)
 
 -- ---- the whole
-module _ (kind : Kind) (k : Counts) (vars : ℕ) (lower upper : List Float) (emitted : ℕ) (row : List ℕ) (rewritten : List Bool) (rhs : List Float) (from upto index : List ℕ) (coeff : List Float) (validated : ℕ) (kept : List ℕ) where
+module _ (kind : Kind) (k : Counts) (vars : ℕ) (lower upper : List Float) (emitted : ℕ) (row : List ℕ) (rewritten : List ℕ) (rhs : List Float) (from upto index : List ℕ) (coeff : List Float) (validated : ℕ) (kept : List ℕ) where
   after-counts : (n : ℕ) → vars ≤ 1000 → Short kept → length (rowTexts emitted row rewritten rhs from upto index coeff) ≤ n → (b : Bool)
       → length (choose b (boundLines vars lower upper ++ (rowTexts emitted row rewritten rhs from upto index coeff ++ validateLines validated kept)) []) ≤ vars * 44 + n + validated * 13
   unfolding choose

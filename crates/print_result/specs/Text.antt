@@ -7,7 +7,7 @@ use mathlib.Core.Path.{_≡_}
 use mathlib.Core.List.{List, [], _∷_, _++_}
 use mathlib.Core.Bool.{Bool, true, false}
 use lib.ListN.{length, getD}
-use lib.Dec.{ltb}
+use lib.Dec.{eqb, ltb}
 use lib.Ieee.{Float, nan, binary64, toBits}
 use Rattle.floats.specs.Num.{choose}
 use Rattle.print_result.specs.declared.Kind.{Kind}
@@ -108,14 +108,14 @@ termAt index coeff i = termLine (getD index i 0) (getD coeff i nan)
 unfoldable pub termLines : ℕ → ℕ → List ℕ → List Float → List ℕ
 termLines from upto index coeff = fromTo (termAt index coeff) from (min upto (min (length index) (length coeff)))
 
--- only a rewritten row has a right side and terms
-unfoldable pub rowText : ℕ → Bool → Float → ℕ → ℕ → List ℕ → List Float → List ℕ
-rowText r rewritten rhs from upto index coeff = choose rewritten (rewrittenLine r rhs ++ termLines from upto index coeff) (writtenLine r)
+-- a row by its mark: 0 is written, any other number rewritten. Only a rewritten row has a right side and terms
+unfoldable pub rowText : ℕ → ℕ → Float → ℕ → ℕ → List ℕ → List Float → List ℕ
+rowText r mark rhs from upto index coeff = choose (eqb mark 0) (writtenLine r) (rewrittenLine r rhs ++ termLines from upto index coeff)
 
-abbrev pub rowAt : List ℕ → List Bool → List Float → List ℕ → List ℕ → List ℕ → List Float → ℕ → List ℕ
-rowAt row rewritten rhs from upto index coeff i = rowText (getD row i 0) (getD rewritten i false) (getD rhs i nan) (getD from i 0) (getD upto i 0) index coeff
+abbrev pub rowAt : List ℕ → List ℕ → List Float → List ℕ → List ℕ → List ℕ → List Float → ℕ → List ℕ
+rowAt row rewritten rhs from upto index coeff i = rowText (getD row i 0) (getD rewritten i 0) (getD rhs i nan) (getD from i 0) (getD upto i 0) index coeff
 
-unfoldable pub rowTexts : ℕ → List ℕ → List Bool → List Float → List ℕ → List ℕ → List ℕ → List Float → List ℕ
+unfoldable pub rowTexts : ℕ → List ℕ → List ℕ → List Float → List ℕ → List ℕ → List ℕ → List Float → List ℕ
 rowTexts n row rewritten rhs from upto index coeff = fromTo (rowAt row rewritten rhs from upto index coeff) 0 (min n (min (min (length row) (min (length rewritten) (length rhs))) (min (length from) (length upto))))
 
 -- ---- the whole. After an infeasible answer only the counts follow
@@ -124,6 +124,6 @@ followed Kind.Reduced = true
 followed Kind.Unchanged = true
 followed Kind.Infeasible = false
 
-unfoldable pub answerText : Kind → Counts → ℕ → List Float → List Float → ℕ → List ℕ → List Bool → List Float → List ℕ → List ℕ → List ℕ → List Float → ℕ → List ℕ → List ℕ
+unfoldable pub answerText : Kind → Counts → ℕ → List Float → List Float → ℕ → List ℕ → List ℕ → List Float → List ℕ → List ℕ → List ℕ → List Float → ℕ → List ℕ → List ℕ
 answerText kind k vars lower upper emitted row rewritten rhs from upto index coeff validated kept =
     answerLine kind ++ (countsLine k ++ choose (followed kind) (boundLines vars lower upper ++ (rowTexts emitted row rewritten rhs from upto index coeff ++ validateLines validated kept)) [])

@@ -2,12 +2,12 @@
 use Prim.Native.Nat.{ℕ, zero, suc, _+_, _-_, _/_, _%_, _≤_, _<_, min}
 use mathlib.Core.Path.{_≡_, refl, ap, sym, _∙_}
 use mathlib.Core.List.{List, [], _∷_, _++_, append-nil}
-use mathlib.Core.Bool.{Bool, true, false, false≢true}
+use mathlib.Core.Bool.{true, false, false≢true}
 use native.Mathlib.Omega.{arith}
 use lib.Ieee.{Float, nan, inf, fin, binary64, isNan, toBits}
 use native.Mathlib.Decide.{decLt}
 use native.Mathlib.Numerals.{add-one}
-use borrow.Author.Tests.{lt-ltb, le-ltb}
+use borrow.Author.Tests.{lt-ltb, le-ltb, eq-eqb, ne-eqb}
 use Rattle.floats.specs.Num.{choose}
 use Rattle.print_result.specs.Text.{digit, tens, decimal, hexDigits, each, fromTo, Least, writtenLine, rewrittenLine, termLines, rowText, answerLine, countsLine, boundLines, rowTexts, validateLines, followed, answerText}
 use Rattle.print_result.specs.declared.Kind.{Kind}
@@ -73,17 +73,17 @@ pub entries : {n p q r s t a b c d m : ℕ} → Least s t a → Least q r b → 
 entries u v w x y = rw (y .is, x .is, w .is, v .is, u .is)
 
 -- ---- a row
-module _ (r : ℕ) (rhs : Float) (from upto : ℕ) (index : List ℕ) (coeff : List Float) {rewritten : Bool} where
-  pub row-rewritten : rewritten ≡ true → rewrittenLine r rhs ++ termLines from upto index coeff ≡ rowText r rewritten rhs from upto index coeff
+module _ (r : ℕ) (rhs : Float) (from upto : ℕ) (index : List ℕ) (coeff : List Float) {mark : ℕ} where
+  pub row-rewritten : (mark ≡ 0 → ⊥) → rewrittenLine r rhs ++ termLines from upto index coeff ≡ rowText r mark rhs from upto index coeff
   unfolding rowText choose
-  row-rewritten e = rw e
+  row-rewritten e = rw (ne-eqb mark 0 e)
 
-  pub row-written : rewritten ≡ false → writtenLine r ≡ rowText r rewritten rhs from upto index coeff
+  pub row-written : mark ≡ 0 → writtenLine r ≡ rowText r mark rhs from upto index coeff
   unfolding rowText choose
-  row-written e = rw e
+  row-written e = rw (eq-eqb mark 0 e)
 
 -- ---- the whole
-module _ (kind : Kind) (k : Counts) (vars : ℕ) (lower upper : List Float) (emitted : ℕ) (row : List ℕ) (rewritten : List Bool) (rhs : List Float) (from upto index : List ℕ) (coeff : List Float) (validated : ℕ) (kept : List ℕ) where
+module _ (kind : Kind) (k : Counts) (vars : ℕ) (lower upper : List Float) (emitted : ℕ) (row : List ℕ) (rewritten : List ℕ) (rhs : List Float) (from upto index : List ℕ) (coeff : List Float) (validated : ℕ) (kept : List ℕ) where
   pub only-counts : followed kind ≡ false → answerLine kind ++ countsLine k ≡ answerText kind k vars lower upper emitted row rewritten rhs from upto index coeff validated kept
   unfolding answerText choose
   only-counts e = rw (e, append-nil)

@@ -62,7 +62,7 @@ fn put_all(
     upper: &[f64],
     emitted: usize,
     row: &[usize],
-    rewritten: &[bool],
+    rewritten: &[u8],
     rhs: &[f64],
     from: &[usize],
     upto: &[usize],
@@ -99,7 +99,8 @@ fn put_all(
 }
 
 // Prints an answer: the first vars bounds, the first emitted rows and the first validated kept
-// rows. Of a rewritten row the terms of its span follow. The first run only counts.
+// rows. A row whose mark is 0 is written, any other rewritten: then the terms of its span follow.
+// The first run only counts.
 pub fn print_answer(
     kind: Kind,
     counts: Counts,
@@ -108,7 +109,7 @@ pub fn print_answer(
     upper: &[f64],
     emitted: usize,
     row: &[usize],
-    rewritten: &[bool],
+    rewritten: &[u8],
     rhs: &[f64],
     from: &[usize],
     upto: &[usize],

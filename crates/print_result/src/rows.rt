@@ -53,21 +53,22 @@ fn put_terms(
     at
 }
 
+// A row by its mark: 0 is written, any other number rewritten.
 fn put_row(
     out: &mut [u8],
     at: usize,
     cap: usize,
     r: usize,
-    rewritten: bool,
+    mark: u8,
     rhs: f64,
     from: usize,
     upto: usize,
     index: &[usize],
     coeff: &[f64],
 ) -> usize
-    ensures { λ z. ⌜ Poured cap (rowText r rewritten rhs from upto (now (index .entry)) (now (coeff .entry))) (page (now (out .entry)) at) (page (now (out .exit)) z) ⌝ }
+    ensures { λ z. ⌜ Poured cap (rowText r mark rhs from upto (now (index .entry)) (now (coeff .entry))) (page (now (out .entry)) at) (page (now (out .exit)) z) ⌝ }
 {
-    if rewritten {
+    if mark != 0 {
         let a = put_rewritten(out, at, cap, r, rhs);
         return put_terms(out, a, cap, from, upto, index, coeff);
     }
@@ -80,7 +81,7 @@ pub fn put_rows(
     cap: usize,
     emitted: usize,
     row: &[usize],
-    rewritten: &[bool],
+    rewritten: &[u8],
     rhs: &[f64],
     from: &[usize],
     upto: &[usize],

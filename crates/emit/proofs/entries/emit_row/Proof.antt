@@ -1,5 +1,7 @@
 use mathlib.Core.Path.{refl, ap, _∙_}
+use Prim.Native.Nat.{ℕ}
 use Rattle.emit.specs.Fates.{isOut, isRewritten}
+use Rattle.emit.specs.RowMark.{mark}
 use Rattle.emit.specs.Filling.{put-taken, put-left}
 use borrow.Author.Needs.{needs}
 use Rattle.emit.proofs.entries.emit_row.Statement.{statement}
@@ -7,7 +9,7 @@ use Rattle.emit.proofs.entries.emit_row.Tie as tie
 use Rattle.emit.proofs.entries.emit_row.Reads as reads
 use Rattle.emit.proofs.entries.emit_row.Lts as lts
 use Rattle.emit.proofs.fates.is_out.Reads as is-out-reads
-use Rattle.emit.proofs.fates.is_rewritten.Reads as is-rewritten-reads
+use Rattle.emit.proofs.fates.mark_of.Reads as mark-of-reads
 use Rattle.space.proofs.get_fate.Reads as get-fate-reads
 
 -- src/entries.rt:25:9
@@ -27,8 +29,8 @@ slice-write-row : tie.Need-slice-write-row
 slice-write-row c = search needs
 
 -- src/entries.rt:28:24
-is-rewritten-requires : tie.Need-is-rewritten-requires
-is-rewritten-requires c κs = search needs
+mark-of-requires : tie.Need-mark-of-requires
+mark-of-requires c κs = search needs
 
 -- src/entries.rt:28:9
 slice-write-rewritten : tie.Need-slice-write-rewritten
@@ -48,7 +50,7 @@ same-length-2 c = search needs
 
 -- src/entries.rt:29:9
 returns : tie.Need-returns
-returns c = (put-taken isOut (c .before .before .before .get-fate .ensures) (c .before .before .is-out .ensures) (c .before .if1 .taken) refl, put-taken isOut (c .before .before .before .get-fate .ensures) (c .before .before .is-out .ensures) (c .before .if1 .taken) (c .is-rewritten .ensures ∙ ap isRewritten (c .before .before .before .get-fate .ensures)))
+returns c = (put-taken isOut (c .before .before .before .get-fate .ensures) (c .before .before .is-out .ensures) (c .before .if1 .taken) refl, put-taken isOut (c .before .before .before .get-fate .ensures) (c .before .before .is-out .ensures) (c .before .if1 .taken) (c .mark-of .ensures ∙ ap (λ (k : ℕ). mark (isRewritten k)) (c .before .before .before .get-fate .ensures)))
 
 -- src/entries.rt:13:1
 returns-2 : tie.Need-returns-2
@@ -62,7 +64,7 @@ emit-row-spec =
     is-out-requires
     mul-row
     slice-write-row
-    is-rewritten-requires
+    mark-of-requires
     slice-write-rewritten
     add-result
     same-length

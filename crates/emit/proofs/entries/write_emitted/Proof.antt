@@ -1,7 +1,7 @@
 use Prim.Native.Nat.{_-_, _≤_}
 use native.Mathlib.Omega.{arith}
 use Rattle.space.specs.Store.{numbersOf}
-use Rattle.emit.specs.Fates.{outAt, rewrittenAt, self}
+use Rattle.emit.specs.Fates.{outAt, markAt, self}
 use Rattle.emit.specs.Filling.{Filled, fill-start, fill-kept, fill-room, fill-turn, fill-end}
 use Rattle.emit.proofs.entries.write_emitted.Statement.{statement}
 use Rattle.emit.proofs.entries.write_emitted.Tie as tie
@@ -10,7 +10,7 @@ use Rattle.emit.proofs.entries.write_emitted.Lts as lts
 use Rattle.emit.proofs.entries.emit_row.Reads as emit-row-reads
 
 abbrev Inv-loop : tie.InvT-loop
-Inv-loop m s row₀ rewritten₀ n₀ r₀ row rewritten n r = (r ≤ s .rows) × Filled (outAt (numbersOf s m .fate)) self r row₀ row n × Filled (outAt (numbersOf s m .fate)) (rewrittenAt (numbersOf s m .fate)) r rewritten₀ rewritten n
+Inv-loop m s row₀ rewritten₀ n₀ r₀ row rewritten n r = (r ≤ s .rows) × Filled (outAt (numbersOf s m .fate)) self r row₀ row n × Filled (outAt (numbersOf s m .fate)) (markAt (numbersOf s m .fate)) r rewritten₀ rewritten n
 
 abbrev μ-loop : tie.MeasureT-loop
 μ-loop m s row₀ rewritten₀ n₀ r₀ row rewritten n r = s .rows - r

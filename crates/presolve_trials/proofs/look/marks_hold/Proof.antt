@@ -2,8 +2,8 @@
 use Prim.Native.Nat.{_-_, _≤_}
 use lib.ListN.{length}
 use borrow.Author.Needs.{needs}
-use Rattle.presolve_trials.proofs.look.flags_hold.Statement.{statement}
-use Rattle.presolve_trials.proofs.look.flags_hold.Tie as tie
+use Rattle.presolve_trials.proofs.look.marks_hold.Statement.{statement}
+use Rattle.presolve_trials.proofs.look.marks_hold.Tie as tie
 
 abbrev Inv-loop : tie.InvT-loop
 Inv-loop s from i₀ i = 0 ≤ i
@@ -32,8 +32,8 @@ loop-again c = search needs
 returns-2 : tie.Need-returns-2 Inv-loop μ-loop
 returns-2 c = search needs
 
-pub flags-hold-spec : {M : Type 1} → statement M
-flags-hold-spec =
+pub marks-hold-spec : {M : Type 1} → statement M
+marks-hold-spec =
     tie.close
     (tie.spec
     Inv-loop
