@@ -63,10 +63,6 @@ shows-with : {M : Model} {f : Floats} {n : Numbers} {o : List ℕ} {w : Work} (b
 shows-with b l h =
     record { wlo = h .wlo; whi = h .whi; elo = h .elo; ehi = h .ehi; dirty = h .dirty; coeffDirty = h .coeffDirty; queued = h .queued; queue = h .queue; counts = h .counts; wave = h .wave; alive = h .alive; rows = h .rows }
 
-shows-without : {M : Model} {f : Floats} {n : Numbers} {o : List ℕ} {w : Work} (b : List Float) (l : List ℕ) → Shows M (withBound b f) (withFate l n) o w → Shows M f n o w
-shows-without b l h =
-    record { wlo = h .wlo; whi = h .whi; elo = h .elo; ehi = h .ehi; dirty = h .dirty; coeffDirty = h .coeffDirty; queued = h .queued; queue = h .queue; counts = h .counts; wave = h .wave; alive = h .alive; rows = h .rows }
-
 -- the fates and bounds of the rows below r are set
 pub record Judged (P : Model → Type 0) (s : Shape) (f : Floats) (n : Numbers) (f′ : Floats) (n′ : Numbers) (r : ℕ) : Type 0 where
   pub floats : f′ ≡ withBound (f′ .bound) f

@@ -13,10 +13,6 @@ pub data Least (a b z : ℕ) : Type 0 where
   first : a ≤ b → z ≡ a → Least a b z
   second : b ≤ a → z ≡ b → Least a b z
 
-pub least-first : {a b z : ℕ} → Least a b z → z ≤ a
-least-first (first l e) = omega (arith, l, e)
-least-first (second l e) = omega (arith, l, e)
-
 pub least-second : {a b z : ℕ} → Least a b z → z ≤ b
 least-second (first l e) = omega (arith, l, e)
 least-second (second l e) = omega (arith, l, e)

@@ -7,7 +7,7 @@ use native.Mathlib.Nat.{add-zero}
 use native.Mathlib.Omega.{arith}
 use native.Mathlib.Decide.{decLt}
 use borrow.Author.Tests.{lt-ltb, le-ltb}
-use lib.ListN.{length, getD, drop, set, length-set}
+use lib.ListN.{length, getD, drop, set}
 use lib.Seq.{drop-cons, sets, set-out}
 use lib.Dec.{ltb}
 use Rattle.floats.specs.Num.{choose}
@@ -84,11 +84,6 @@ pub drop-one : (t : List ℕ) (i : ℕ) → i < length t → drop i t ≡ (getD 
 drop-one t i h = drop-cons t i 0 h ∙ ap (λ (j : ℕ). getD t i 0 ∷ drop j t) (sym (add-one i))
 
 -- ---- what a page holds at the end
-push-length : (most b : ℕ) (k : Page) → Dec (k .place < most) → length (push most b k .bytes) ≡ length (k .bytes)
-unfolding push choose
-push-length most b k (yes h) = rw (lt-ltb (k .place) most h) (length-set (k .bytes) (k .place) b)
-push-length most b k (no h) = rw (le-ltb (k .place) most (omega arith))
-
 push-place : (most b : ℕ) (k : Page) → Dec (k .place < most) → push most b k .place ≡ min (k .place + 1) most
 unfolding push choose
 push-place most b k (yes h) = rw (lt-ltb (k .place) most h) (omega arith)

@@ -1,3 +1,4 @@
+-- `bounds_changed` is whether a bound is another number now than in the model.
 use Rattle.definition.specs.Emit.{sameBounds}
 use Rattle.emit.specs.Same.{SameTo, same-start, same-turn, same-differs, same-end, first-differs, second-differs, none-differs}
 use Rattle.space.specs.Blocks.{elo-length, ehi-length}

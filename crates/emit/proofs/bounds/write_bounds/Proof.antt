@@ -1,3 +1,4 @@
+-- `write_bounds` is lower and upper of Reduced, at the front of the slices.
 use Rattle.emit.specs.Filling.{Copied, copy-start, copy-kept, copy-turn, copy-end}
 use Prim.Native.Nat.{_-_}
 use native.Mathlib.Omega.{arith}

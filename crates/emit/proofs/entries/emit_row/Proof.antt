@@ -1,3 +1,4 @@
+-- `emit_row`: row r follows the n emitted rows, if it is emitted.
 use mathlib.Core.Path.{refl, ap, _∙_}
 use Prim.Native.Nat.{ℕ}
 use Rattle.emit.specs.Fates.{isOut, isRewritten}

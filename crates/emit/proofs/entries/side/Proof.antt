@@ -1,3 +1,4 @@
+-- `side`: the right side that row r goes out with.
 use Rattle.emit.specs.Fates.{side-bound, side-given}
 use borrow.Author.Needs.{needs}
 use Rattle.emit.proofs.entries.side.Statement.{statement}

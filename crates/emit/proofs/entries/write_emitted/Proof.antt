@@ -1,3 +1,4 @@
+-- `write_emitted` is row and rewritten of emitted, at the front of the slices.
 use Prim.Native.Nat.{_-_, _≤_}
 use native.Mathlib.Omega.{arith}
 use Rattle.space.specs.Store.{numbersOf}

@@ -1,3 +1,4 @@
+-- `write_rhs` is rhs of emitted, at the front of the slice.
 use Prim.Native.Nat.{_-_, _≤_}
 use native.Mathlib.Omega.{arith}
 use Rattle.space.specs.Store.{floatsOf, numbersOf}

@@ -1,3 +1,4 @@
+-- `is_kept`: whether a row of this fate is kept for validation.
 use Rattle.emit.specs.Fates.{kept-one, kept-other}
 use Rattle.emit.proofs.fates.is_kept.Statement.{statement}
 use Rattle.emit.proofs.fates.is_kept.Tie as tie

@@ -1,3 +1,4 @@
+-- `is_out`: whether it is emitted.
 use Rattle.emit.specs.Fates.{out-is}
 use Rattle.emit.proofs.fates.is_out.Statement.{statement}
 use Rattle.emit.proofs.fates.is_out.Tie as tie

@@ -1,3 +1,4 @@
+-- `is_rewritten`: whether it is emitted rewritten.
 use Rattle.emit.specs.Fates.{rewritten-is}
 use Rattle.emit.proofs.fates.is_rewritten.Statement.{statement}
 use Rattle.emit.proofs.fates.is_rewritten.Tie as tie

@@ -1,3 +1,4 @@
+-- `mark_of`: its mark, where it is emitted: 0 written, 1 rewritten.
 use Rattle.emit.specs.RowMark.{mark-one, mark-zero}
 use borrow.Author.Needs.{needs}
 use Rattle.emit.proofs.fates.mark_of.Statement.{statement}

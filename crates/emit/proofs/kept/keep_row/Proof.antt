@@ -1,3 +1,4 @@
+-- `keep_row`: row r follows the n kept rows, if it is kept.
 use mathlib.Core.Path.{refl}
 use Rattle.emit.specs.Fates.{isKept}
 use Rattle.emit.specs.Filling.{put-taken, put-left}

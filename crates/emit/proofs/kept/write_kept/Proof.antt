@@ -1,3 +1,4 @@
+-- `write_kept` is kept of Reduced, at the front of the slice.
 use Prim.Native.Nat.{_-_, _≤_}
 use native.Mathlib.Omega.{arith}
 use Rattle.space.specs.Store.{numbersOf}

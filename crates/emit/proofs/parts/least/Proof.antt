@@ -1,3 +1,4 @@
+-- `least`: the smaller of two numbers.
 use native.Mathlib.Omega.{arith}
 use mathlib.Core.Path.{refl}
 use Rattle.emit.specs.Parts.{first, second}

@@ -1,3 +1,4 @@
+-- `span_from`: where the span of row r starts.
 use Rattle.emit.specs.Spans.{from-yes, from-no}
 use borrow.Author.Needs.{needs}
 use Rattle.emit.proofs.spans.span_from.Statement.{statement}

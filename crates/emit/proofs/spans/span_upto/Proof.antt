@@ -1,3 +1,4 @@
+-- `span_upto`: where it ends.
 use Rattle.emit.specs.Spans.{upto-yes, upto-no}
 use borrow.Author.Needs.{needs}
 use Rattle.emit.proofs.spans.span_upto.Statement.{statement}

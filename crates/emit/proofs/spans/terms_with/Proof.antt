@@ -1,3 +1,4 @@
+-- `terms_with`: how many terms the rewritten rows have up to row r and with it; before is the number before it.
 use native.Mathlib.Omega.{arith}
 use Rattle.emit.specs.Spans.{with-room, with-yes, with-no}
 use borrow.Author.Needs.{needs}

@@ -1,3 +1,4 @@
+-- `write_spans` is from and upto of emitted, at the front of the slices.
 use Prim.Native.Nat.{_-_}
 use native.Mathlib.Omega.{arith}
 use Rattle.space.specs.Store.{numbersOf}

@@ -1,3 +1,4 @@
+-- `is_trivial` is trivial.
 use Rattle.emit.specs.Judging.{trivial-tells}
 use borrow.Author.Needs.{needs}
 use Rattle.emit.proofs.trivial.is_trivial.Statement.{statement}
