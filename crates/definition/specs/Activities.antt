@@ -1,4 +1,8 @@
--- `Work::activity`: a row's smallest and largest sum over the working or the emitted box (Savelsbergh), term by term in the row's order.
+-- `Work::activity` of src/presolve/work.rs of microlp 0.7.0, changed: a row's smallest and largest sum over the working or the emitted box
+-- (Savelsbergh), term by term in the row's order.
+-- Any variable may leave its emitted bounds by its bound tolerance, so a row's sum may pass the activity by the slack, the sum of |a| times the
+-- tolerance of the bound that the corner has: every verdict and every dropped row allows for it. A part that is infinite is counted and not added,
+-- since a term has an implied bound exactly where no other term is infinite on that side.
 use Prim.Native.Nat.{suc}
 use mathlib.Core.Bool.{Bool}
 use mathlib.Core.List.{List, [], _∷_}

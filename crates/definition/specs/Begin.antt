@@ -1,4 +1,6 @@
--- src/presolve/mod.rs, the start of `presolve`: crossed bounds, integer bounds rounded, rows read by `trivial_row_verdict`.
+-- src/presolve/mod.rs of microlp 0.7.0, changed: the start of `presolve`.
+-- Where bounds cross there is no point. In Mip, integer bounds are rounded first: no whole number within them is lost, and what is fixed later is
+-- whole. A row that its own data decide, with no term or with an infinite right side, is judged as it stands (`trivial_row_verdict`).
 use Prim.Native.Nat.{ℕ, zero, suc}
 use mathlib.Core.Bool.{Bool, true, false, _||_}
 use mathlib.Core.List.{List, [], _∷_, _++_}

@@ -1,4 +1,10 @@
--- `rewrite_binding` and `rewritten_bound`: the binding branch of a row's rewrites, and the bound that a rewritten row is emitted with.
+-- `rewrite_binding` and `rewritten_bound` of src/presolve/work.rs of microlp 0.7.0, changed: the binding branch of a row's rewrites, and the bound
+-- that a rewritten row is emitted with.
+-- A rewrite makes the row's magnitude smaller in the binding branch, and so its tolerance: the bound is relaxed by the difference, so that every
+-- point within the budget of the row as written, its rewritten binaries at one, stays within that of the rewritten one. The bound that is emitted is
+-- computed anew from the one as written, less what the rewrites cut from the coefficients, in compensated arithmetic, and rounded outward: in the
+-- binding branch the emitted row is the row as written, relaxed by what is kept, and never tighter. The working side, carried through folds and
+-- rewrites, is off by their round-off, which only the vacuous branch allows for.
 use Prim.Native.Nat.{ℕ}
 use mathlib.Core.List.{List, [], _∷_, _++_}
 use mathlib.Core.Option.{Option, none, some}
@@ -46,7 +52,7 @@ module _ (M : Model) where
   bindingSum row r d [] = d
   bindingSum row r d (k ∷ ks) = bindingSum row r (double.plus (double.plus d (neg (orElse (coeffIn k (written M r)) 0f))) (coeffOf row k)) ks
 
-  -- no Eq row is rewritten (RowsKept/EqRows), where the Rust has `unreachable!`
+  -- no Eq row is rewritten (rows_kept, specs/EqRows), where the Rust has `unreachable!`; here its bound is that of a Ge row
   unfoldable pub boundWith : Row → ℕ → Option Binding → Float
   boundWith row r none = rhsOf M r
   boundWith row r (some b) =

@@ -1,4 +1,8 @@
--- `fix`, `emit_bounds`, `tighten_upper` and `tighten_lower`: what changes a variable's bounds.
+-- `fix`, `emit_bounds`, `tighten_upper` and `tighten_lower` of src/presolve/work.rs of microlp 0.7.0, changed: what changes a variable's bounds.
+-- An implied bound is relaxed outward, so that it cuts no point that meets the row within its budget. An integer variable's is then rounded and
+-- emitted. Any other variable keeps its bounds as given, and what is implied of it stays a working bound: emitted, it would take from the variable
+-- the room that the model leaves it, and the rooms of several variables can add up, in a row that is kept, to more than that row's tolerance. Where
+-- bounds cross by no more than their tolerance, nothing is changed; where they cross by more, no point is left.
 use Prim.Native.Nat.{ℕ}
 use mathlib.Core.Bool.{true, false, _||_}
 use lib.ListN.{set}

@@ -12,22 +12,28 @@ use Rattle.floats.specs.Value.{mags}
 use Rattle.floats.specs.Next.{gap, prev}
 use Rattle.floats.specs.Num.{choose, isFinite, isInfinite, abs, maxf, minf, truncOf, awayOf, floor, ceil, nextUp, nextDown, ofCount}
 use Rattle.cdouble.specs.Double as double
-use Rattle.tolerances.specs.Tol.{Term, term, rowTolerance, boundTolerance, outside, slackMin, slackMax, trivialVerdict, slackMargin, slackTol, lessTerm, impliedFrom, impliedSlack, saysTrue, violated, zipTerms}
+use Rattle.tolerances.specs.Tol.{Term, term, rowTolerance, boundTolerance, outside, slackMin, slackMax, trivialVerdict, slackMargin}
+use Rattle.tolerances.specs.Tol.{slackTol, lessTerm, impliedFrom, impliedSlack, saysTrue, violated, zipTerms}
 use Rattle.definition.specs.Params.{params}
-use Rattle.definition.specs.Model.{Model, from as model·from, upto, nnz, written, opOf, rhsOf, isIntDomain, isMip, isInt, asWritten, rhsMag, coeffIn, orElse, coeffOf, rangeMin, rangeMax, counts, Emit, Answer, infeasible, done}
+use Rattle.definition.specs.Model.{Model, from as model·from, upto, nnz, written, opOf, rhsOf, isIntDomain, isMip, isInt, asWritten}
+use Rattle.definition.specs.Model.{rhsMag, coeffIn, orElse, coeffOf, rangeMin, rangeMax, counts, Emit, Answer, infeasible, done}
 use Rattle.definition.specs.Work.{has, hasTerm, fixed, dropRow, budget, boundTol, trivial}
 use Rattle.definition.specs.Activities.{activityStep, activityFrom, activity}
 use Rattle.definition.specs.Marks.{markRow, adjacent, markFrom, markVar}
 use Rattle.definition.specs.Bounds.{fix, markTightened, emitBounds, upperInt, upperReal, tightenUpper, lowerInt, lowerReal, tightenLower}
-use Rattle.definition.specs.Folds.{swapRemove, foldTerm, foldStep, foldLoop, fixedBesidesFrom, fixedBesides, widen, bound?, givesBack, rewriteRoom, relaxWith, relaxBinding, givenBack, holdRewrites, foldFixed}
-use Rattle.definition.specs.Singles.{fixedValue, finiteMag, emptyRowCheck, roomAt, widenedAt, droppedRoom, newLower, newUpper, singletonInt, singletonMisses, singletonBounds, lowerMeets, upperMeets, singletonDrop, singletonRow}
-use Rattle.definition.specs.Sides.{hiSide, loSide, magL, magU, withinLo, withinHi, within, withinBy, sideMag, magBoth, budgetL, budgetU, aboveHi, belowLo, unreachable, nearMin, nearMax, redundant}
+use Rattle.definition.specs.Folds.{swapRemove, foldTerm, foldStep, foldLoop, fixedBesidesFrom, fixedBesides, widen, bound?}
+use Rattle.definition.specs.Folds.{givesBack, rewriteRoom, relaxWith, relaxBinding, givenBack, holdRewrites, foldFixed}
+use Rattle.definition.specs.Singles.{fixedValue, finiteMag, emptyRowCheck, roomAt, widenedAt, droppedRoom, newLower, newUpper, singletonInt}
+use Rattle.definition.specs.Singles.{singletonMisses, singletonBounds, lowerMeets, upperMeets, singletonDrop, singletonRow}
+use Rattle.definition.specs.Sides.{hiSide, loSide, magL, magU, withinLo, withinHi, within, withinBy, sideMag, magBoth}
+use Rattle.definition.specs.Sides.{budgetL, budgetU, aboveHi, belowLo, unreachable, nearMin, nearMax, redundant}
 use Rattle.definition.specs.Forcing.{corner, forcedTerm, allForced, forcingAt, forcesMin, forcesMax, fixAll}
 use Rattle.definition.specs.Implied.{restOf, finiteAbs, implied, impliedTerm, impliedBounds}
 use Rattle.definition.specs.Wave.{idle, severalTerms, byCount, waveRow, waveRows, wave, waves}
 use Rattle.definition.specs.Rewrites.{formOf, rewrites, vacuousRoom, actAfter, shrinkLe, raiseLe, vacuousLe, shrinkGe, lowerGe, vacuousGe, vacuous}
 use Rattle.definition.specs.Bindings.{sumCoeffs, taken, rewriteBinding, growth, bindingSum, boundWith, rewrittenBound}
-use Rattle.definition.specs.Tighten.{setCoeff, queued, binary, rewriteOf, eligible, reboundRow, rowAfter, rewriteStep, rewriteLoop, spared, tightenForm, tightenBy, tightenRow, tightenFrom, tightenBinaryCoeffs}
+use Rattle.definition.specs.Tighten.{setCoeff, queued, binary, rewriteOf, eligible, reboundRow, rowAfter, rewriteStep, rewriteLoop}
+use Rattle.definition.specs.Tighten.{spared, tightenForm, tightenBy, tightenRow, tightenFrom, tightenBinaryCoeffs}
 use Rattle.definition.specs.Dual.{blockTerms, badDec, badInc, noneBad, mayFall, mayRise, dualVar, dualFrom, dualFix}
 use Rattle.definition.specs.Begin.{crossed, roundedLower, roundedUpper, roundVar, roundFrom, addRow, readRow, readFrom}
 use Rattle.definition.specs.Rounds.{dualStep, afterWaves, rounds}
@@ -222,7 +228,20 @@ cases =
 
 -- to unfold this is to unfold all that its line names: every definition that presolve comes to
 unfoldable pub everything : Unit {0}
-unfolding neg add sub mul div lt eq le round ofInt ofBits toBits isNan ne mags gap prev choose isFinite isInfinite abs maxf minf truncOf awayOf floor ceil nextUp nextDown ofCount double.twoSum double.split double.twoProduct double.from double.plus double.plusProduct double.value double.rounded rowTolerance boundTolerance outside slackMin slackMax trivialVerdict slackMargin slackTol lessTerm impliedFrom impliedSlack saysTrue violated zipTerms model·from upto nnz written opOf rhsOf isIntDomain isMip isInt asWritten rhsMag coeffIn orElse coeffOf rangeMin rangeMax has hasTerm fixed dropRow budget boundTol trivial activityStep activityFrom activity markRow adjacent markFrom markVar fix markTightened emitBounds upperInt upperReal tightenUpper lowerInt lowerReal tightenLower swapRemove foldTerm foldStep foldLoop fixedBesidesFrom fixedBesides widen bound? givesBack rewriteRoom relaxWith relaxBinding givenBack holdRewrites foldFixed fixedValue finiteMag emptyRowCheck roomAt widenedAt droppedRoom newLower newUpper singletonInt singletonMisses singletonBounds lowerMeets upperMeets singletonDrop singletonRow hiSide loSide magL magU withinLo withinHi within withinBy sideMag magBoth budgetL budgetU aboveHi belowLo unreachable nearMin nearMax redundant corner forcedTerm allForced forcingAt forcesMin forcesMax fixAll restOf finiteAbs implied impliedTerm impliedBounds idle severalTerms byCount waveRow waveRows wave waves formOf rewrites vacuousRoom actAfter shrinkLe raiseLe vacuousLe shrinkGe lowerGe vacuousGe vacuous sumCoeffs taken rewriteBinding growth bindingSum boundWith rewrittenBound setCoeff queued binary rewriteOf eligible reboundRow rowAfter rewriteStep rewriteLoop spared tightenForm tightenBy tightenRow tightenFrom tightenBinaryCoeffs blockTerms badDec badInc noneBad mayFall mayRise dualVar dualFrom dualFix crossed roundedLower roundedUpper roundVar roundFrom addRow readRow readFrom dualStep afterWaves rounds insertTerm sortTerms noTerms sameBounds outRow outEmpty outAlive outOne outFrom differs answerOf finish start afterRounding presolve
+unfolding neg add sub mul div lt eq le round ofInt ofBits toBits isNan ne mags gap prev choose isFinite isInfinite abs maxf minf truncOf awayOf floor ceil
+    nextUp nextDown ofCount double.twoSum double.split double.twoProduct double.from double.plus double.plusProduct double.value double.rounded rowTolerance
+    boundTolerance outside slackMin slackMax trivialVerdict slackMargin slackTol lessTerm impliedFrom impliedSlack saysTrue violated zipTerms model·from upto
+    nnz written opOf rhsOf isIntDomain isMip isInt asWritten rhsMag coeffIn orElse coeffOf rangeMin rangeMax has hasTerm fixed dropRow budget boundTol trivial
+    activityStep activityFrom activity markRow adjacent markFrom markVar fix markTightened emitBounds upperInt upperReal tightenUpper lowerInt lowerReal
+    tightenLower swapRemove foldTerm foldStep foldLoop fixedBesidesFrom fixedBesides widen bound? givesBack rewriteRoom relaxWith relaxBinding givenBack
+    holdRewrites foldFixed fixedValue finiteMag emptyRowCheck roomAt widenedAt droppedRoom newLower newUpper singletonInt singletonMisses singletonBounds
+    lowerMeets upperMeets singletonDrop singletonRow hiSide loSide magL magU withinLo withinHi within withinBy sideMag magBoth budgetL budgetU aboveHi belowLo
+    unreachable nearMin nearMax redundant corner forcedTerm allForced forcingAt forcesMin forcesMax fixAll restOf finiteAbs implied impliedTerm impliedBounds
+    idle severalTerms byCount waveRow waveRows wave waves formOf rewrites vacuousRoom actAfter shrinkLe raiseLe vacuousLe shrinkGe lowerGe vacuousGe vacuous
+    sumCoeffs taken rewriteBinding growth bindingSum boundWith rewrittenBound setCoeff queued binary rewriteOf eligible reboundRow rowAfter rewriteStep
+    rewriteLoop spared tightenForm tightenBy tightenRow tightenFrom tightenBinaryCoeffs blockTerms badDec badInc noneBad mayFall mayRise dualVar dualFrom
+    dualFix crossed roundedLower roundedUpper roundVar roundFrom addRow readRow readFrom dualStep afterWaves rounds insertTerm sortTerms noTerms sameBounds
+    outRow outEmpty outAlive outOne outFrom differs answerOf finish start afterRounding presolve
 everything = tt
 
 -- a call's refusal, or none, and the definition's answer
@@ -243,7 +262,7 @@ pub twelve-cases : presolved cases ≡ answers cases
 unfolding cases presolved answers writing everything judging
 twelve-cases = refl
 
--- the same, for each case of the table
+-- the theorem for one case of the table: its model is accepted, and has its answer
 abbrev Right : Case → Type 0
 Right c = (refusal (c .model) (shortest (c .model)) ≡ none) × (presolve (c .model) ≡ c .answer)
 

@@ -1,4 +1,8 @@
--- `dual_fix`: an integer variable that no row and not the objective keeps from one of its finite bounds is fixed there.
+-- `dual_fix` of src/presolve/work.rs of microlp 0.7.0, changed: an integer variable that no row and not the objective keeps from one of its finite
+-- bounds is fixed there.
+-- To move it there hurts no row and makes the objective no worse, so a best point is kept, though not every point: only in mode 2. Towards an
+-- infinite bound the model may be unbounded, which is for the solver to say. The bound is the emitted one too: what bounds v from below in the
+-- working box is a row that also keeps v from falling.
 use Prim.Native.Nat.{ℕ, zero, suc}
 use mathlib.Core.Bool.{Bool, true, false, not, _&&_, _||_}
 use mathlib.Core.List.{List, [], _∷_}

@@ -13,8 +13,10 @@ use Rattle.floats.specs.Num.{choose, 0f, ½f, ∞f, -∞f, isFinite}
 use Rattle.definition.specs.Params.{params}
 use Rattle.definition.specs.Model.{Model}
 use Rattle.definition.specs.Cases.{#, ratio, -0f, bits, p, Line, _·_, isEq, isLe, isGe, modelWithin, model, writing}
-use Rattle.definition.specs.Refusal.{Lent, MAX-VARS, floatsNeeded, numbersNeeded, adjacencyNeeded, someBelow, vars, rows, terms, lengthsDisagree, tooLarge, startsWrong, indicesWrong, domainWrong, codesWrong, boundWrong, boundsWrong, objWrong, numbersWrong, rhsesWrong, tolerancesWrong, tooShort, shortest, earliest, refusal, judging}
-use Rattle.definition.specs.RowsKept.Lists.{equal, bool-false}
+use Rattle.definition.specs.Refusal.{Lent, MAX-VARS, floatsNeeded, numbersNeeded, adjacencyNeeded, someBelow, vars, rows, terms, lengthsDisagree}
+use Rattle.definition.specs.Refusal.{tooLarge, startsWrong, indicesWrong, domainWrong, codesWrong, boundWrong, boundsWrong, objWrong, numbersWrong}
+use Rattle.definition.specs.Refusal.{rhsesWrong, tolerancesWrong, tooShort, shortest, earliest, refusal, judging}
+use Rattle.definition.specs.Choices.{equal, bool-false}
 
 -- ---- lent slices matter to refusal 10 alone
 last-alone : (cs : List (ℕ × Bool)) (k : ℕ) (c d : Bool) → earliest (cs ++ ((k, c) ∷ [])) ≡ none → d ≡ false → earliest (cs ++ ((k, d) ∷ [])) ≡ none
@@ -28,7 +30,8 @@ pub longer-accepted : (M : Model) (K L : Lent) → refusal M K ≡ none → tooS
 unfolding refusal
 longer-accepted M K L =
     last-alone
-    ((1, lengthsDisagree M) ∷ (2, tooLarge M) ∷ (3, startsWrong M) ∷ (4, indicesWrong M) ∷ (5, codesWrong M) ∷ (6, boundsWrong M) ∷ (7, numbersWrong M) ∷ (8, rhsesWrong M) ∷ (9, tolerancesWrong M) ∷ [])
+    ((1, lengthsDisagree M) ∷ (2, tooLarge M) ∷ (3, startsWrong M) ∷ (4, indicesWrong M) ∷ (5, codesWrong M) ∷ (6, boundsWrong M) ∷ (7, numbersWrong M)
+    ∷ (8, rhsesWrong M) ∷ (9, tolerancesWrong M) ∷ [])
     10 (tooShort M K) (tooShort M L)
 
 ltb-same : (n : ℕ) → ltb n n ≡ false
@@ -108,6 +111,8 @@ edges =
     ∷ lending 1 1 1 1 1 1 1 1 1 1 12 21 3 (some 10)
     ∷ lending 1 1 1 1 1 1 1 1 1 1 13 20 3 (some 10)
     ∷ lending 1 1 1 1 1 1 1 1 1 1 13 21 2 (some 10)
+    -- two rows of the table apply: the earlier is given, the right side's and not the tolerance's
+    ∷ of (modelWithin (ratio 51 100) ½f 1 (p ∷ []) (isEq (2 · 0 ∷ []) ∞f ∷ [])) (some 8)
     ∷ []
 
 unfoldable pub refusals : List Call → List (Option ℕ)

@@ -1,4 +1,8 @@
--- src/presolve/mod.rs, the end of `presolve`: the rows that go out, in input order.
+-- src/presolve/mod.rs of microlp 0.7.0, changed: the end of `presolve`, the rows that go out, in input order.
+-- A row that is not rewritten goes out as written, fixed terms included: folded, it would have a smaller magnitude and so a tighter tolerance than it
+-- is granted, and the fold's round-off could make two rows that agree disagree. A rewritten row gets its folded terms back for the same reason, and
+-- the bound that follows from the one as written; since a rewrite holds for whole points only, a solution is also checked against the row as written.
+-- A row that a last fixing leaves no term is judged here.
 use Prim.Native.Nat.{ℕ, zero, suc, _+_}
 use mathlib.Core.Bool.{Bool, true, false, not, _&&_, _||_}
 use mathlib.Core.List.{List, [], _∷_, _++_}

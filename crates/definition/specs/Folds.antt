@@ -1,4 +1,10 @@
--- `fold_fixed`, `relax_binding` and `hold_rewrites`: fixed variables and zero coefficients leave a row, and a rewritten row's relaxation grows with the fixed ones.
+-- `fold_fixed`, `relax_binding`, `rewrite_room` and `hold_rewrites` of src/presolve/work.rs of microlp 0.7.0, changed: fixed variables and zero
+-- coefficients leave a row.
+-- The reduced model itself holds a fixed variable at its value, so its term is a constant and goes over to the sides; a zero coefficient says
+-- nothing. A rewritten row was relaxed by what its rewrites took out of its tolerance, at the magnitude of its bound, its rewritten binaries and its
+-- fixed terms: the difference grows with each term that is fixed, so the row is relaxed further. Where that arithmetic overflows and no side stays
+-- finite, the row goes back as written: a rewrite only tightens the row for solutions that are not whole, so the row as written keeps every point
+-- that the rewrites kept.
 use Prim.Native.Nat.{ℕ, zero, suc, _-_}
 use mathlib.Core.Bool.{Bool, true, false, not, _&&_}
 use mathlib.Core.List.{List, [], _∷_, _++_}
@@ -73,7 +79,7 @@ unfoldable pub givesBack : Row → Bool
 givesBack row = bound? (row .binding) && not (isFinite (row .lo)) && not (isFinite (row .hi))
 
 module _ (M : Model) where
-  -- `rewrite_room`
+  -- `rewrite_room`: the tolerance at the magnitude as written less that as rewritten, fixed terms in both. It is infinite where the magnitude overflows, and the row then goes back
   unfoldable pub rewriteRoom : Float → Float → Float → Float
   rewriteRoom wr re fx =
       let m = wr ⊕ fx in

@@ -1,4 +1,9 @@
--- `forcing_fixings` and forcing in `primal_wave`: a row whose corner over the emitted box meets its bound fixes all of its variables there, or none.
+-- `forcing_fixings` of src/presolve/work.rs of microlp 0.7.0, and forcing in `primal_wave`, changed: a row whose corner over the emitted box meets
+-- its bound fixes all of its variables there, or none.
+-- The corner is within round-off of the bound, so every point has each variable at that end of its range; to fix it is exact for an integer variable
+-- with no other whole number in the room that the row leaves it beyond that end, the sliver and the row's budget over the coefficient. A term whose
+-- whole range is below the sliver and the sum's round-off is not seen by the row, which then forces nothing. The corner may pass the bound by the
+-- budget: it is then the best there is.
 use Prim.Native.Nat.{ℕ}
 use mathlib.Core.Bool.{Bool, true, not, _&&_}
 use mathlib.Core.List.{List, [], _∷_}

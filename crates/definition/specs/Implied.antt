@@ -1,4 +1,7 @@
--- `primal_wave`, the implied bounds of each term, from each side of the row.
+-- `primal_wave` of src/presolve/work.rs of microlp 0.7.0, changed: the implied bounds of each term, from each side of the row.
+-- With the rest of the row at its corner, a finite side bounds the term. That bound is relaxed by the row's budget where it is attained, by the
+-- round-off of the rest, which is the sum less this term's own part, and by the slack, so it holds of every solution within tolerance. A bound
+-- tightened earlier in the loop does not change the activity: the older one is looser, so what it implies still holds.
 use Prim.Native.Nat.{ℕ}
 use mathlib.Core.Bool.{Bool, true, false, not}
 use mathlib.Core.List.{List, [], _∷_}

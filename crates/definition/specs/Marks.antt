@@ -1,4 +1,6 @@
--- `mark_row` and `mark_var`: requeueing.
+-- `mark_row` and `mark_var` of src/presolve/work.rs of microlp 0.7.0, changed: requeueing.
+-- A row is queued where something that it reads, a bound of one of its variables or its own numbers, changed since it was last handled: so the waves
+-- cost what changed, and not all terms each time. Rows only lose terms, so the rows of a variable as written hold all that it still stands in.
 use Prim.Native.Nat.{ℕ, zero, suc}
 use mathlib.Core.Bool.{Bool, true, not, _&&_}
 use mathlib.Core.List.{[], _∷_, _++_}

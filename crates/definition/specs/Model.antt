@@ -1,4 +1,8 @@
--- src/presolve/model.rs: what a call hands in, the rows as presolve works on them, and what comes back. Definitions only.
+-- src/presolve/model.rs of microlp 0.7.0, changed: what a call hands in, the rows as presolve works on them, and what comes back.
+-- Definitions only. The variables never change: one that presolve "removes" gets equal bounds, and its value is taken out of every row, so a solution
+-- of the reduced model needs no translation back. A row at work has the form lo <= a·x <= hi: one side finite of a Le or Ge row, both equal of an Eq
+-- row; no reduction makes a row with two different sides. Fixed terms are folded out of the row at work alone. They are still terms of the row, so
+-- every tolerance of it includes their magnitude (`foldScale`, and `shift` for the bound as written), and what comes back has them again.
 use Prim.Native.Nat.{ℕ, suc, _+_, _-_}
 use mathlib.Core.Bool.{Bool, true, false, not, _&&_}
 use mathlib.Core.List.{List, [], _∷_}
@@ -50,7 +54,7 @@ module _ (M : Model) where
   unfoldable pub rhsOf : ℕ → Float
   rhsOf r = at (M .rhs) r
 
-  -- `is_int_domain` and `Work::is_int`: both modes but 0 are the Rust's Mip
+  -- `is_int_domain` and `Work::is_int`: both modes but 0 are the Rust's Mip. 01's "non-integer variable" is one of which isInt says no
   unfoldable pub isIntDomain : ℕ → Bool
   isIntDomain v = not (eqb (getD (M .domain) v 0) 1)
 
@@ -62,6 +66,8 @@ module _ (M : Model) where
   isInt v = isMip && isIntDomain v
 
 -- ---- a row at work
+-- the binding branch of the rewrites that moved the row's bound, their binaries at one: those binaries, the magnitude of the bound and their coefficients as written
+-- and as rewritten, and what the bound was relaxed by so far
 pub record Binding : Type 0 where
   pub binaries : List ℕ
   pub written : Float

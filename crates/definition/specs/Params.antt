@@ -1,15 +1,22 @@
--- src/presolve/params.rs: presolve's seven thresholds and caps, as one record that the definitions take.
+-- src/presolve/params.rs of microlp 0.7.0, changed: presolve's seven thresholds and caps, as one record that the definitions take.
+-- None of them is a reason why a reduction is right: that rests on the tolerances (Work). Of the theorems about points only one thing is asked of
+-- them, that the redundancy margin is not negative (points_kept, `points-kept-by`).
 use mathlib.Core.Path.{_≡_, refl}
 use mathlib.Core.Bool.{false}
 use Prim.Native.Nat.{ℕ, _*_, _^_}
 use lib.Ieee.{Float, binary64, ofBits, round}
 
 pub record Params : Type 0 where
+  -- how much a working bound must gain at least, relative to itself: it keeps changes of a last digit from going round
   pub improveRel : Float
+  -- by how much a row must be redundant, relative to its magnitude: to keep a redundant row costs only time
   pub redundantMargin : Float
+  -- the part of itself by which a coefficient must shrink at least
   pub coeffMinImprove : Float
+  -- a row of more than coeffTightenShortRow terms is rewritten only where at most coeffTightenRowCap of them are eligible
   pub coeffTightenRowCap : ℕ
   pub coeffTightenShortRow : ℕ
+  -- waves a round, and rounds
   pub maxPasses : ℕ
   pub maxRounds : ℕ
 

@@ -1,4 +1,7 @@
--- 01's table of refusals, for a call: the number of the earliest row of the table that applies, or none. Over the call's numbers and the lengths of the lent slices.
+-- 01's table of refusals, for a call: the number of the earliest row of the table that applies, or none.
+-- Over the call's numbers and the lengths of the lent slices. It is the port's own: the Rust leaves these things to its caller, or panics. What
+-- passes has lists that fit each other, indices that rise, known codes, numbers where presolve computes with them, tolerances in their range, and
+-- room for the results, which every promise about a call starts from.
 use Prim.Native.Nat.{ℕ, zero, suc, _+_, _-_, _*_}
 use mathlib.Core.Bool.{Bool, false, not, _&&_, _||_}
 use mathlib.Core.List.{List, [], _∷_}
@@ -181,5 +184,7 @@ refusal M L = earliest (table M L)
 
 -- to unfold this is to unfold all that its line names: every definition that refusal comes to
 unfoldable pub judging : Unit {0}
-unfolding eq le isNan ofBits choose isFinite slackMin slackMax validRhs from upto nnz opOf rhsOf floatsNeeded numbersNeeded adjacencyNeeded someBelow lengthsDisagree tooLarge startFalls startsWrong indexLarge indexFalls rowUnordered indicesWrong domainWrong cmpWrong codesWrong boundWrong boundsWrong objWrong coeffWrong numbersWrong rhsWrong rhsesWrong toleranceWrong tolerancesWrong tooShort shortest earliest refusal
+unfolding eq le isNan ofBits choose isFinite slackMin slackMax validRhs from upto nnz opOf rhsOf floatsNeeded numbersNeeded adjacencyNeeded someBelow
+    lengthsDisagree tooLarge startFalls startsWrong indexLarge indexFalls rowUnordered indicesWrong domainWrong cmpWrong codesWrong boundWrong boundsWrong
+    objWrong coeffWrong numbersWrong rhsWrong rhsesWrong toleranceWrong tolerancesWrong tooShort shortest earliest refusal
 judging = tt

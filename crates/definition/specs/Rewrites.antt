@@ -1,4 +1,8 @@
--- `tighten_binary_coeffs`, what a rewrite does to one term: a vacuous branch of a binary is made bound-tight (Savelsbergh). Functions of records alone.
+-- `tighten_binary_coeffs` of src/presolve/work.rs of microlp 0.7.0, changed: what a rewrite does to one term (Savelsbergh).
+-- Functions of records alone. In a row with one finite side a binary has a vacuous branch where, with the binary at that value, the rest of the row
+-- meets the bound whatever it is. The coefficient, and where need be the bound, are changed so that this branch only just holds; the other branch,
+-- the binding one, asks the same of the rest as before. So the row gets tighter for values that are not whole, and whole points are kept. The vacuous
+-- branch is relaxed by the activity's round-off and slack, the binding one by what the rewrite takes out of the row's tolerance (Bindings).
 use Prim.Native.Nat.{ℕ}
 use mathlib.Core.Bool.{not, _&&_}
 use lib.Dec.{eqb}

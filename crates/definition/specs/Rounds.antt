@@ -1,4 +1,6 @@
--- src/presolve/mod.rs, the fixpoint of `presolve`: waves, then in Mip the coefficient and the dual step, for at most so many rounds.
+-- src/presolve/mod.rs of microlp 0.7.0, changed: the fixpoint of `presolve`.
+-- Waves, then in Mip the coefficient and the dual step, which queue the rows that they touch, for at most so many rounds. Every reduction may be left
+-- out, so work that is left at a cap is abandoned without harm.
 use Prim.Native.Nat.{ℕ, zero, suc, _-_}
 use mathlib.Core.Bool.{Bool, false, _||_}
 use lib.Dec.{eqb}
@@ -11,7 +13,7 @@ use Rattle.definition.specs.Tighten.{tightenBinaryCoeffs}
 use Rattle.definition.specs.Dual.{dualFix}
 
 module _ (M : Model) where
-  -- mode 2 is the Rust's `allow_dual`
+  -- mode 2 is the Rust's `allow_dual`; 01's "dual fixing off" is mode 1
   unfoldable pub dualStep : Work → Work × Bool
   dualStep w = let d = dualFix M w in choose (eqb (M .mode) 2) d (w, false)
 

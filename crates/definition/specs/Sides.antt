@@ -1,4 +1,9 @@
--- `primal_wave`, what a row's activities say of it: whether no point meets it, whether it may force its variables, whether it is redundant.
+-- `primal_wave` of src/presolve/work.rs of microlp 0.7.0, changed: what a row's activities say of it.
+-- Whether no point meets it, whether it may force its variables, whether it is redundant. The working box, widened by the slack, holds every point
+-- that is left; so a row that its best corner misses by more than the budget there has none. The corner decides: away from it the sum grows faster
+-- than the tolerance. Redundancy is judged by the emitted bounds, so that no drop rests on a bound that only the dropped row implies, and with the
+-- slack, so that a solution within tolerance still meets the dropped row. The working activity lies within the emitted one, so it serves as a
+-- precheck.
 use Prim.Native.Nat.{ℕ}
 use mathlib.Core.Bool.{Bool, not, _&&_, _||_}
 use lib.Dec.{eqb}

@@ -1,4 +1,10 @@
--- `empty_row_check` and `singleton_row`: rows of no term, and of one.
+-- `empty_row_check` and `singleton_row` of src/presolve/work.rs of microlp 0.7.0, changed: rows of no term, and of one.
+-- A row of no term is judged as it is once dropped: as written, at its fixed values, against its whole tolerance. Nothing can move it any more, so
+-- its budget has no part in it; held to that, a model that has a point could be called infeasible. A row of one term, a·x from lo to hi, bounds x. An
+-- integer x gets bounds that keep every whole number that meets the row within its budget, widened by the round-off of the folded side. Any other x
+-- is left alone, and where the row misses its bounds, both with their tolerances, there is no point. The row is dropped only where every value within
+-- the bound tolerance of the emitted bounds meets it within its whole tolerance less the round-off of evaluating it: once dropped, only that
+-- tolerance can move it.
 use Prim.Native.Nat.{ℕ}
 use mathlib.Core.Bool.{Bool, true, false, not, _&&_, _||_}
 use lib.Ieee.{Float, lt, le}

@@ -1,4 +1,9 @@
--- `tighten_binary_coeffs`: coefficient tightening on one-sided rows for strict binaries, row by row.
+-- `tighten_binary_coeffs` of src/presolve/work.rs of microlp 0.7.0, changed: coefficient tightening on rows with one finite side, for strict
+-- binaries, row by row.
+-- Why whole points are kept: Rewrites and Bindings. Not kept is a point that meets the row within its budget only with a binary off its whole number:
+-- the new coefficient takes away the room that the offset gives. A long row with many eligible terms is left alone: on a loose dense row of binaries
+-- every coefficient is eligible, and the row would fall towards a mere count of them, tighter but with very many equal solutions. What pays on a long
+-- row is one or two coefficients that are far too large.
 use Prim.Native.Nat.{ℕ, zero, suc, _+_}
 use mathlib.Core.Bool.{Bool, true, false, not, _&&_, _||_}
 use mathlib.Core.List.{List, [], _∷_, _++_}

@@ -1,4 +1,8 @@
--- `primal_wave`: a queued row is folded and handled by its count of terms; the waves of a round.
+-- `primal_wave` of src/presolve/work.rs of microlp 0.7.0, and its loop in mod.rs, changed: a queued row is folded and handled by its count of terms;
+-- the waves of a round.
+-- A wave takes the rows queued so far, in the queue's order. A row that something changes meanwhile is in the next wave, unless its turn in this one
+-- is still to come. The cap on waves is a safety net: every reduction may be left out, so what is queued when it is reached is abandoned without
+-- harm.
 use Prim.Native.Nat.{ℕ, zero, suc}
 use mathlib.Core.Bool.{Bool, true, false}
 use mathlib.Core.List.{List, [], _∷_}

@@ -1,4 +1,10 @@
--- src/presolve/work.rs, `Work`: the state that the reductions change, a step that may find the model infeasible, and what is read off the state.
+-- src/presolve/work.rs of microlp 0.7.0, changed: `Work`, the state that the reductions change, a step that may find the model infeasible, and what
+-- is read off it.
+-- Working bounds collect every implied bound and lead to further ones. Emitted bounds are what the reduced model has: those of an integer variable
+-- are rounded, implied or fixed, all others are as given. A row is dropped only where the emitted bounds imply it, never by a working bound whose
+-- reason may be that very row. A row whose magnitude is m, |b| plus the sum of |a·x|, is held to its budget at m, which is its tolerance less the
+-- round-off of evaluating it. That magnitude is taken at the corner of the box that a decision is about, never over the whole box, so a huge bound
+-- does not widen the tolerance of a row at small values.
 use Prim.Native.Nat.{ℕ}
 use mathlib.Core.Bool.{Bool, false, _&&_, _||_}
 use mathlib.Core.List.{List, [], _∷_}
@@ -70,7 +76,7 @@ unfoldable pub dropRow : ℕ → Row → Work → Work
 dropRow r row w = withCounts (dropped (w .counts)) (withRow r (withAlive false row) w)
 
 module _ (M : Model) where
-  -- `budget`: by the row's terms as written, zeros and folded ones among them
+  -- 01's "budget" of row r at a magnitude, `budget`: by the row's terms as written, zeros and folded ones among them
   unfoldable pub budget : ℕ → Float → Float
   budget r m = slackTol (M .feas) m (nnz M r)
 
