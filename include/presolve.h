@@ -3,8 +3,10 @@
  *     rt staticlib presolve_c
  *     cc -I include program.c target/staticlib/libpresolve_c.a
  *
- * include/presolve.rs says the same for Rust. The library allocates nothing, keeps nothing between calls and calls only
- * memset. It runs on x86-64 Linux, where size_t has 64 bits.
+ * include/presolve_model.h has the same by structs, with words for what is returned; include/presolve.rs is for Rust. The
+ * library allocates nothing, keeps nothing between calls and calls only memset. It runs on x86-64 Linux, where size_t has 64
+ * bits. Codes and counts have the names of src/problem.rs, src/expr.rs and src/presolve/model.rs of microlp 0.7.0, changed
+ * for C; NOTICE has its licence.
  *
  * Every slice is a pointer and a count of entries. The caller's duties, which no refusal checks:
  *   - a pointer is not null and is aligned for its entries, also where the count is 0;
@@ -117,6 +119,25 @@ uint8_t suedeonyx_presolve(
     size_t *numbers, size_t numbers_len,
     size_t *adjacency, size_t adjacency_len,
     size_t *answer, size_t answer_len);
+
+/* Where the terms of an emitted row stand, by its mark and span: emit_rewritten[i], emit_from[i] and emit_upto[i] after a call
+ * that returned 0. index and coeff are the model's, term_index and term_coeff those that the call wrote; nothing is copied.
+ *
+ * Returns PRESOLVE_REWRITTEN where the terms stand in term_index and term_coeff, PRESOLVE_WRITTEN where in index and coeff.
+ * *count says how many there are, *start the place of the first: it and those after it are in both slices, whatever mark, from
+ * and upto are (no terms stand at place 0), so the two pointers
+ *
+ *     (returned ? term_index : index) + start, (returned ? term_coeff : coeff) + start
+ *
+ * and count are the row, as a solver takes it. start and count are each lent as a slice of one entry.
+ */
+uint8_t suedeonyx_row_terms(
+    const size_t *index, size_t index_len,
+    const double *coeff, size_t coeff_len,
+    const size_t *term_index, size_t term_index_len,
+    const double *term_coeff, size_t term_coeff_len,
+    uint8_t mark, size_t from, size_t upto,
+    size_t *start, size_t *count);
 
 #ifdef __cplusplus
 }

@@ -4,9 +4,9 @@
 //!     rt staticlib presolve_c
 //!     rustc -L native=target/staticlib -l static=presolve_c ..
 //!
-//! The function below takes slices, so the duties of a C caller are met by its types. It tests nothing: the library refuses.
+//! The functions below take slices, so the duties of a C caller are met by their types. They test nothing: the library refuses.
 
-extern "C" {
+unsafe extern "C" {
     fn suedeonyx_presolve(
         obj: *const f64, obj_len: usize,
         lower: *const f64, lower_len: usize,
@@ -32,6 +32,15 @@ extern "C" {
         numbers: *mut usize, numbers_len: usize,
         adjacency: *mut usize, adjacency_len: usize,
         answer: *mut usize, answer_len: usize,
+    ) -> u8;
+
+    fn suedeonyx_row_terms(
+        index: *const usize, index_len: usize,
+        coeff: *const f64, coeff_len: usize,
+        term_index: *const usize, term_index_len: usize,
+        term_coeff: *const f64, term_coeff_len: usize,
+        mark: u8, from: usize, upto: usize,
+        start: *mut usize, count: *mut usize,
     ) -> u8;
 }
 
@@ -76,6 +85,27 @@ pub fn presolve(
     }
 }
 
+/// The terms of an emitted row, by its mark and span, as `suedeonyx_row_terms` says: a part of the model's slices or of the
+/// rewritten ones.
+pub fn row_terms<'a>(
+    index: &'a [usize], coeff: &'a [f64], term_index: &'a [usize], term_coeff: &'a [f64], mark: u8, from: usize, upto: usize,
+) -> (&'a [usize], &'a [f64]) {
+    let (mut start, mut count) = (0, 0);
+    // Each pointer comes from a slice with its length; start and count are two numbers of this function.
+    let rewritten = unsafe {
+        suedeonyx_row_terms(
+            index.as_ptr(), index.len(),
+            coeff.as_ptr(), coeff.len(),
+            term_index.as_ptr(), term_index.len(),
+            term_coeff.as_ptr(), term_coeff.len(),
+            mark, from, upto,
+            &mut start, &mut count,
+        )
+    };
+    let (vars, coeffs) = if rewritten == 1 { (term_index, term_coeff) } else { (index, coeff) };
+    (&vars[start..start + count], &coeffs[start..start + count])
+}
+
 /// How many entries the working slices need, of a model of so many variables, rows and terms.
 pub const fn floats_needed(vars: usize, rows: usize, terms: usize) -> usize {
     4 * vars + 8 * rows + terms
@@ -91,3 +121,54 @@ pub const fn adjacency_needed(vars: usize, _rows: usize, terms: usize) -> usize 
 
 /// How many entries the answer's slice needs.
 pub const ANSWER: usize = 9;
+
+// ---- the constants of presolve.h, by the same names without their prefix; tools/check_library.py keeps them equal
+
+/// Domains.
+pub const INTEGER: u8 = 0;
+pub const REAL: u8 = 1;
+pub const BOOLEAN: u8 = 2;
+
+/// Comparisons.
+pub const EQ: u8 = 0;
+pub const LE: u8 = 1;
+pub const GE: u8 = 2;
+
+/// Modes: the last with dual fixing.
+pub const LP: u8 = 0;
+pub const MIP: u8 = 1;
+pub const MIP_DUAL: u8 = 2;
+
+/// Marks of emitted rows.
+pub const WRITTEN: u8 = 0;
+pub const REWRITTEN: u8 = 1;
+
+/// The largest counts.
+pub const MAX_VARS: usize = 4096;
+pub const MAX_ROWS: usize = 8192;
+pub const MAX_TERMS: usize = 65536;
+
+/// What the call returns: `DONE`, `INFEASIBLE`, or the number of a refusal.
+pub const DONE: u8 = 0;
+pub const LENGTHS_DISAGREE: u8 = 1;
+pub const TOO_MANY: u8 = 2;
+pub const BAD_STARTS: u8 = 3;
+pub const BAD_INDEX: u8 = 4;
+pub const BAD_CODE: u8 = 5;
+pub const BAD_BOUND: u8 = 6;
+pub const NOT_FINITE: u8 = 7;
+pub const BAD_RHS: u8 = 8;
+pub const BAD_TOLERANCE: u8 = 9;
+pub const TOO_SHORT: u8 = 10;
+pub const INFEASIBLE: u8 = 100;
+
+/// Places in the answer's slice: five counts, then how much of the result slices is used, then the flag.
+pub const ROWS_DROPPED: usize = 0;
+pub const BOUNDS_TIGHTENED: usize = 1;
+pub const VARS_FIXED: usize = 2;
+pub const COEFFS_TIGHTENED: usize = 3;
+pub const PASSES: usize = 4;
+pub const EMITTED: usize = 5;
+pub const TERMS: usize = 6;
+pub const KEPT: usize = 7;
+pub const REDUCED: usize = 8;

@@ -17,7 +17,7 @@ use Rattle.definition.specs.Bindings.{rewrittenBound}
 use Rattle.definition.specs.Emit.{Out, noOut, sortTerms, keepRow, emitWritten, emitRewritten, outRow}
 use Rattle.view.specs.Lists.{yes, no, either}
 use Rattle.emit.specs.Settled.{outSettled, outOf}
-use Rattle.emit.specs.RowMark.{mark}
+use Rattle.row_terms.specs.RowMark.{mark}
 
 unfoldable pub isKept : ℕ → Bool
 isKept c = eqb c 1 || ltb 2 c

@@ -32,7 +32,8 @@ use Rattle.emit.specs.Fates.{isRewritten, fateOf, Fates}
 pub record TellsTrivial (s : Shape) (ss os : List ℕ) (bs : List Float) (r : ℕ) (z : Bool) : Type 0 where
   pub tells : (M : Model) → M .starts ≡ ss → M .cmp ≡ os → M .rhs ≡ bs → Call M s → trivial M r ≡ z
 
-pub trivial-tells : {s : Shape} {ss os : List ℕ} {bs : List Float} {r : ℕ} (t : Verdict) {z : Bool} → verdictOf t ≡ trivialVerdict (s .feas) (getD os r 0) (getD ss (r + 1) 0 - getD ss r 0) (getD bs r nan) → z ≡ saysTrue (verdictOf t)
+pub trivial-tells : {s : Shape} {ss os : List ℕ} {bs : List Float} {r : ℕ} (t : Verdict) {z : Bool} → verdictOf t ≡ trivialVerdict (s .feas) (getD os r 0)
+    (getD ss (r + 1) 0 - getD ss r 0) (getD bs r nan) → z ≡ saysTrue (verdictOf t)
     → TellsTrivial s ss os bs r z
 unfolding trivial opOf rhsOf nnz from upto
 trivial-tells t e f = record { tells = λ M a b d c. rw (a, b, d, ← c .feas) (sym (f ∙ ap saysTrue e)) }
@@ -54,14 +55,63 @@ ready-trivial {ss} {r = r} R p =
 
 -- ---- the blocks of fates and bounds, which show nothing
 abbrev pub withFate : List ℕ → Numbers → Numbers
-withFate l f = record { queued = f .queued; dropped = f .dropped; tightened = f .tightened; fixed = f .fixed; rewrote = f .rewrote; passes = f .passes; dirty = f .dirty; coeffDirty = f .coeffDirty; queue = f .queue; wave = f .wave; len = f .len; folded = f .folded; alive = f .alive; touched = f .touched; binaries = f .binaries; fate = l; slot = f .slot; badDec = f .badDec; badInc = f .badInc; vars = f .vars; binary = f .binary }
+withFate l f = record {
+  queued = f .queued;
+  dropped = f .dropped;
+  tightened = f .tightened;
+  fixed = f .fixed;
+  rewrote = f .rewrote;
+  passes = f .passes;
+  dirty = f .dirty;
+  coeffDirty = f .coeffDirty;
+  queue = f .queue;
+  wave = f .wave;
+  len = f .len;
+  folded = f .folded;
+  alive = f .alive;
+  touched = f .touched;
+  binaries = f .binaries;
+  fate = l;
+  slot = f .slot;
+  badDec = f .badDec;
+  badInc = f .badInc;
+  vars = f .vars;
+  binary = f .binary;
+}
 
 abbrev pub withBound : List Float → Floats → Floats
-withBound l f = record { wlo = f .wlo; whi = f .whi; elo = f .elo; ehi = f .ehi; lo = f .lo; hi = f .hi; foldScale = f .foldScale; shift = f .shift; written = f .written; rewritten = f .rewritten; kept = f .kept; bound = l; coeffs = f .coeffs }
+withBound l f = record {
+  wlo = f .wlo;
+  whi = f .whi;
+  elo = f .elo;
+  ehi = f .ehi;
+  lo = f .lo;
+  hi = f .hi;
+  foldScale = f .foldScale;
+  shift = f .shift;
+  written = f .written;
+  rewritten = f .rewritten;
+  kept = f .kept;
+  bound = l;
+  coeffs = f .coeffs;
+}
 
 shows-with : {M : Model} {f : Floats} {n : Numbers} {o : List ℕ} {w : Work} (b : List Float) (l : List ℕ) → Shows M f n o w → Shows M (withBound b f) (withFate l n) o w
 shows-with b l h =
-    record { wlo = h .wlo; whi = h .whi; elo = h .elo; ehi = h .ehi; dirty = h .dirty; coeffDirty = h .coeffDirty; queued = h .queued; queue = h .queue; counts = h .counts; wave = h .wave; alive = h .alive; rows = h .rows }
+    record {
+      wlo = h .wlo;
+      whi = h .whi;
+      elo = h .elo;
+      ehi = h .ehi;
+      dirty = h .dirty;
+      coeffDirty = h .coeffDirty;
+      queued = h .queued;
+      queue = h .queue;
+      counts = h .counts;
+      wave = h .wave;
+      alive = h .alive;
+      rows = h .rows;
+    }
 
 -- the fates and bounds of the rows below r are set
 pub record Judged (P : Model → Type 0) (s : Shape) (f : Floats) (n : Numbers) (f′ : Floats) (n′ : Numbers) (r : ℕ) : Type 0 where

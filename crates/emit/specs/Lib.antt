@@ -1,11 +1,9 @@
 -- The end of presolve: the definition's pass as two, the fates of rows, and what the writers leave.
 pub mod Settled
 pub mod Sorted
-pub mod RowMark
 pub mod Fates
 pub mod Filling
 pub mod Same
-pub mod Parts
 pub mod Spans
 pub mod Slots
 pub mod Terms

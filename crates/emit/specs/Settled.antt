@@ -176,7 +176,8 @@ module _ (M : Model) (r : ℕ) where
       unfolding outAlive settleAlive
       one-alive a = go (noTerms (x .terms))
         where
-          go : (b : Bool) → choose b (outEmpty M r o₀ (emptyRowCheck M r x (withRow r x w))) (final (withRow r x w) (outRow M r x o₀)) ≡ finalOf M (suc r) (choose b (emptyRowCheck M r x (withRow r x w)) (next (withRow r x w)))
+          go : (b : Bool) → choose b (outEmpty M r o₀ (emptyRowCheck M r x (withRow r x w))) (final (withRow r x w) (outRow M r x o₀))
+              ≡ finalOf M (suc r) (choose b (emptyRowCheck M r x (withRow r x w)) (next (withRow r x w)))
           go true = yes _ _ refl ∙ one-empty ∙ ap (finalOf M (suc r)) (sym (yes _ (next (withRow r x w)) refl))
           go false = no _ _ refl ∙ one-left a ∙ ap (finalOf M (suc r)) (sym (no (emptyRowCheck M r x (withRow r x w)) _ refl))
 

@@ -1,4 +1,4 @@
-// The emitted bounds.
+// src/presolve/mod.rs of microlp 0.7.0, changed: the emitted bounds.
 ghost use mathlib.Core.Path.{_≡_};
 ghost use mathlib.Core.Bool.{not, _||_};
 ghost use Prim.Native.Nat.{_≤_};

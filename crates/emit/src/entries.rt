@@ -1,10 +1,11 @@
-// The rows that are emitted: their numbers, their marks, and their right sides.
+// src/presolve/mod.rs of microlp 0.7.0, changed: the rows that are emitted, their numbers, their marks,
+// and their right sides.
 ghost use mathlib.Core.Path.{_≡_};
 ghost use Prim.Native.Nat.{_≤_, _<_};
 ghost use lib.ListN.{length, getD};
 ghost use Rattle.space.specs.Store.{floatsOf, numbersOf, HoldsF, HoldsN};
 ghost use Rattle.emit.specs.Fates.{isOut, isRewritten, outAt, markAt, sideAt, self};
-ghost use Rattle.emit.specs.RowMark.{mark};
+ghost use Rattle.row_terms.specs.RowMark.{mark};
 ghost use Rattle.emit.specs.Filling.{PutIf, Filled};
 use crate::fates::is_out;
 use crate::fates::is_rewritten;
@@ -22,7 +23,8 @@ fn emit_row(
 ) -> usize
     requires { ⌜ (r < s .rows) × HoldsN s (now m) × (n < length (now row)) × (n < length (now rewritten)) ⌝ }
     ensures { λ z. ⌜ PutIf (isOut (getD (numbersOf s (now (m .entry)) .fate) r 0)) r n (now (row .entry)) (now (row .exit)) z ⌝ }
-    ensures { λ z. ⌜ PutIf (isOut (getD (numbersOf s (now (m .entry)) .fate) r 0)) (mark (isRewritten (getD (numbersOf s (now (m .entry)) .fate) r 0))) n (now (rewritten .entry)) (now (rewritten .exit)) z ⌝ }
+    ensures { λ z. ⌜ PutIf (isOut (getD (numbersOf s (now (m .entry)) .fate) r 0)) (mark (isRewritten (getD (numbersOf s (now (m .entry)) .fate) r 0))) n
+        (now (rewritten .entry)) (now (rewritten .exit)) z ⌝ }
 {
     let fate = space::get_fate(m, s, r);
     if is_out(fate) {
@@ -70,7 +72,8 @@ fn emit_rhs(
     out: &mut [f64],
 ) -> usize
     requires { ⌜ (r < s .rows) × HoldsF s (now w) × HoldsN s (now m) × (r < length (now rhs)) × (n < length (now out)) ⌝ }
-    ensures { λ z. ⌜ PutIf (isOut (getD (numbersOf s (now (m .entry)) .fate) r 0)) (sideAt (numbersOf s (now (m .entry)) .fate) (floatsOf s (now (w .entry)) .bound) (now (rhs .entry)) r) n (now (out .entry)) (now (out .exit)) z ⌝ }
+    ensures { λ z. ⌜ PutIf (isOut (getD (numbersOf s (now (m .entry)) .fate) r 0))
+        (sideAt (numbersOf s (now (m .entry)) .fate) (floatsOf s (now (w .entry)) .bound) (now (rhs .entry)) r) n (now (out .entry)) (now (out .exit)) z ⌝ }
 {
     if is_out(space::get_fate(m, s, r)) {
         out[n] = side(rhs, w, m, s, r);
@@ -82,7 +85,8 @@ fn emit_rhs(
 // = rhs of emitted, at the front of the slice. How many there are.
 pub fn write_rhs(rhs: &[f64], w: &[f64], m: &[usize], s: Shape, out: &mut [f64]) -> usize
     requires { ⌜ HoldsF s (now w) × HoldsN s (now m) × (s .rows ≤ length (now rhs)) × (s .rows ≤ length (now out)) ⌝ }
-    ensures { λ z. ⌜ Filled (outAt (numbersOf s (now (m .entry)) .fate)) (sideAt (numbersOf s (now (m .entry)) .fate) (floatsOf s (now (w .entry)) .bound) (now (rhs .entry))) (s .rows) (now (out .entry)) (now (out .exit)) z ⌝ }
+    ensures { λ z. ⌜ Filled (outAt (numbersOf s (now (m .entry)) .fate)) (sideAt (numbersOf s (now (m .entry)) .fate) (floatsOf s (now (w .entry)) .bound)
+        (now (rhs .entry))) (s .rows) (now (out .entry)) (now (out .exit)) z ⌝ }
 {
     let mut n: usize = 0;
     let mut r: usize = 0;

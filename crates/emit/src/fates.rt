@@ -2,10 +2,10 @@
 // 3 emitted rewritten and kept.
 ghost use mathlib.Core.Path.{_≡_};
 ghost use Rattle.emit.specs.Fates as fates;
-ghost use Rattle.emit.specs.RowMark.{mark};
+ghost use Rattle.row_terms.specs.RowMark.{mark};
 
 // Whether a row of this fate is kept for validation.
-pub fn is_kept(fate: usize) -> bool
+pub(crate) fn is_kept(fate: usize) -> bool
     ensures { λ z. ⌜ z ≡ fates.isKept fate ⌝ }
 {
     if fate == 1 {
@@ -14,22 +14,22 @@ pub fn is_kept(fate: usize) -> bool
     fate > 2
 }
 
-// Whether it is emitted.
-pub fn is_out(fate: usize) -> bool
+// Whether a row of this fate is emitted.
+pub(crate) fn is_out(fate: usize) -> bool
     ensures { λ z. ⌜ z ≡ fates.isOut fate ⌝ }
 {
     fate > 1
 }
 
-// Whether it is emitted rewritten.
-pub fn is_rewritten(fate: usize) -> bool
+// Whether a row of this fate is emitted rewritten.
+pub(crate) fn is_rewritten(fate: usize) -> bool
     ensures { λ z. ⌜ z ≡ fates.isRewritten fate ⌝ }
 {
     fate > 2
 }
 
-// Its mark, where it is emitted: 0 written, 1 rewritten.
-pub fn mark_of(fate: usize) -> u8
+// The mark of a row of this fate, where it is emitted: 0 written, 1 rewritten.
+pub(crate) fn mark_of(fate: usize) -> u8
     ensures { λ z. ⌜ z ≡ mark (fates.isRewritten fate) ⌝ }
 {
     if is_rewritten(fate) {

@@ -1,4 +1,4 @@
-// The rows that are kept for validation.
+// src/presolve/mod.rs of microlp 0.7.0, changed: the rows that are kept for validation.
 ghost use Prim.Native.Nat.{_≤_, _<_};
 ghost use lib.ListN.{length, getD};
 ghost use Rattle.space.specs.Store.{numbersOf, HoldsN};

@@ -1,9 +1,12 @@
-// The end of presolve: rows are folded a last time, and what is left is written to the result slices.
+// src/presolve/mod.rs of microlp 0.7.0, changed: the end of `presolve`, list by list.
+// What is left once `settle` has folded every row a last time is written to the result slices, by the
+// fates that `output` judges. A row that is not rewritten goes out as written, fixed terms included,
+// since folded it would have a smaller magnitude and so a tighter tolerance than it is granted; a
+// rewritten one gets its folded terms back for the same reason.
 mod bounds;
 mod entries;
 mod fates;
 mod kept;
-mod parts;
 mod slots;
 mod spans;
 mod terms;
@@ -14,8 +17,6 @@ pub use bounds::write_bounds;
 pub use entries::write_emitted;
 pub use entries::write_rhs;
 pub use kept::write_kept;
-pub use parts::row_coeffs;
-pub use parts::row_vars;
 pub use spans::write_spans;
 pub use terms::write_terms;
 pub use trivial::is_trivial;

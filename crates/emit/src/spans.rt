@@ -37,7 +37,7 @@ fn span_from(starts: &[usize], m: &[usize], s: Shape, r: usize, before: usize) -
     starts[r]
 }
 
-// Where it ends.
+// Where the span of row r ends.
 fn span_upto(starts: &[usize], m: &[usize], s: Shape, r: usize, with: usize) -> usize
     requires { ⌜ (r < s .rows) × HoldsN s (now m) × (s .rows < length (now starts)) ⌝ }
     requires { ⌜ with ≡ termsTo (numbersOf s (now m)) (suc r) ⌝ }

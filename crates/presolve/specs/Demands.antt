@@ -4,28 +4,35 @@ use native.Mathlib.Omega.{arith}
 use mathlib.Core.Path.{_≡_, refl, ap, sym, _∙_, subst}
 use mathlib.Core.Logic.{_↔_}
 use mathlib.Core.Bool.{Bool, true, false}
-use mathlib.Core.List.{[], List·Memᴰ}
+use mathlib.Core.List.{List, [], List·Memᴰ}
 use mathlib.Core.Option.{Option, none, some}
 use lib.IntN.{ℤ}
-use lib.ListN.{length, take, replicate}
-use Rattle.floats.specs.Num.{0f}
-use Rattle.tolerances.specs.Tol.{at}
+use lib.ListN.{length, getD, take, drop, replicate}
+use lib.Seq.{take-all}
+use lib.Ieee.{Float}
+use Rattle.floats.specs.Num.{0f, choose}
+use Rattle.tolerances.specs.Tol.{Term, at}
 use Rattle.definition.specs.declared.Counts.{Counts}
-use Rattle.definition.specs.Params.{params, maxWaves}
 use Rattle.definition.specs.Model as definition
 use Rattle.definition.specs.Model.{Model, isInt, Emit, Reduced}
 use Rattle.definition.specs.Presolve.{presolve}
 use Rattle.definition.specs.Refusal.{refusal}
-use Rattle.definition.specs.RowsKept.Statements.{Fate, entriesOf, occurs, countBelow, noEntry}
-use Rattle.definition.specs.RowsKept.Theorems as kept
-use Rattle.definition.specs.PointsKept.Statements.{Shaped, WholeNumbers, Point, termsOf, MeetsReduced, WholeReduced, Exact}
-use Rattle.definition.specs.PointsKept.Theorem.{points-kept}
-use Rattle.definition.specs.PointsKept.Accepted.{accepted-shaped}
+use Rattle.rows_kept.specs.Statements.{Fate, entriesOf, occurs, countBelow, noEntry}
+use Rattle.rows_kept.specs.Theorems as kept
+use Rattle.points_kept.specs.Statements.{WholeNumbers, Point, termsOf, MeetsReduced, WholeReduced, Exact}
+use Rattle.points_kept.specs.Theorem.{points-kept}
+use Rattle.points_kept.specs.ActivityEverywhere.{WholeBounds, answer-whole}
+use Rattle.definition.specs.Accepted.{Shaped, accepted-shaped}
+use Rattle.refuse.specs.Of.{modelOf}
+use Rattle.view.specs.Lists.{length-map}
+use Rattle.row_terms.specs.declared.Place.{Place}
+use Rattle.row_terms.specs.RowMark.{marked}
+use Rattle.row_terms.specs.Place.{placeOf, vars-there, coeffs-there, count-all}
 use Rattle.emit.specs.Terms.{varsOf, coeffsOf}
 use Rattle.output.specs.Results.{Results, written}
 use Rattle.presolve.specs.declared.Answer.{Answer}
 use Rattle.presolve.specs.Promise.{Working, working, lengths, Outcome, refused, infeasible, presolved, answerIs, outcome, resultsAfter, workingAfter, Promise}
-use Rattle.presolve.specs.Fronts.{entriesFrom, entries-length, reducedIn, reduced-in}
+use Rattle.presolve.specs.Fronts.{entryAt, entriesFrom, entry-member, entries-length, reducedIn, reduced-in}
 use Rattle.presolve.specs.RowTerms.{rowVars, rowCoeffs, all-member, row-vars, row-coeffs}
 
 -- ---- the three answers are three
@@ -116,20 +123,6 @@ module _ {M : Model} {b b′ : Results} {x x′ : Working} {z : Answer} (p : Pro
       let r = infeasible-by table (presolve M) k (sym (p .answer) ∙ e) in
       p .results ∙ ap (λ (o : Option ℕ). resultsAfter o (presolve M) b) (r .0) ∙ ap (λ (a : definition.Answer). resultsAfter none a b) (r .1)
 
-  -- at most 30 waves. Every call's model has the Rust's parameters (refuse, `modelOf`): that premise is refl
-  pub waves-infeasible : M .params ≡ params → (k : Counts) → answerIs z ≡ infeasible k → k .passes ≤ 30
-  waves-infeasible s k e =
-      let r = infeasible-by table (presolve M) k (sym (p .answer) ∙ e) in
-      let l = kept.waves-bounded-infeasible M k (r .1) in
-      let y : maxWaves (M .params) ≡ 30 = ap maxWaves s ∙ kept.thirty in
-      omega (arith, l, y)
-
-  -- ---- DEMAND 3, infeasible: on a farm model with dual fixing off and nothing rewritten there is no point
-  pub no-point : M .params ≡ params → WholeNumbers M → M .mode ≡ 1 → (k : Counts) → answerIs z ≡ infeasible k → k .coeffsTightened ≡ 0 → (y : ℕ → ℤ) → Point M y → ⊥
-  no-point s f one k e =
-      let r = infeasible-by table (presolve M) k (sym (p .answer) ∙ e) in
-      subst (Exact M) (r .1) (points-kept M (record { shape = accepted-shaped M (lengths b x) (r .0); numbers = f }) one s)
-
   -- ---- a model
   module _ {k : Counts} {n t q : ℕ} {g : Bool} (e : answerIs z ≡ presolved k n t q g) where
     found : Modelled table (presolve M) k n t q g
@@ -156,13 +149,6 @@ module _ {M : Model} {b b′ : Results} {x x′ : Working} {z : Answer} (p : Pro
     pub in-slices : presolve M ≡ definition.done model
     in-slices = found .is ∙ ap definition.done (sym model-is)
 
-    pub waves-run : M .params ≡ params → k .passes ≤ 30
-    unfolding reducedIn
-    waves-run s =
-        let l = kept.waves-bounded M model in-slices in
-        let y : maxWaves (M .params) ≡ 30 = ap maxWaves s ∙ kept.thirty in
-        omega (arith, l, y)
-
     -- DEMAND 3: no row is lost. What became of row r: trivially true as handed in, emitted unchanged, dropped and kept, or rewritten and kept
     pub row-fate : (r : ℕ) → r < length (M .rhs) → Fate M r (entriesFrom b′ n 0) (take q (b′ .kept))
     unfolding reducedIn
@@ -182,7 +168,7 @@ module _ {M : Model} {b b′ : Results} {x x′ : Working} {z : Answer} (p : Pro
     unfolding reducedIn
     rows-conserved = ap (λ (l : ℕ). l + k .rowsDropped) (sym (entries-length b′ n 0)) ∙ kept.conserved M model in-slices
 
-    -- the readers of an emitted row's terms return the definition's: `rowVars` and `rowCoeffs` are what emit's `row_vars` and `row_coeffs` promise
+    -- the readers of an emitted row's terms return the definition's: `rowVars` and `rowCoeffs` are what row_terms' `row_vars` and `row_coeffs` promise
     module _ (y : Emit) (m : List·Memᴰ y (entriesFrom b′ n 0)) where
       inside : y .rewritten ≡ true → y .upto ≤ length (found .reduced .terms)
       unfolding reducedIn
@@ -194,13 +180,68 @@ module _ {M : Model} {b b′ : Results} {x x′ : Working} {z : Answer} (p : Pro
         ap (λ (c : Results). rowCoeffs M c y) slices-are ∙ row-coeffs M (found .reduced) y inside b (shaped .coeffs) ∙ ap (λ (R : Reduced). coeffsOf (termsOf M R y)) (sym model-is),
       )
 
+    -- so do those whose place and count `row_place` tells, and the C face's `suedeonyx_row_terms`: i is the entry's number
+    module _ (i : ℕ) (l : i < n) where
+      abbrev pub stands : Place
+      stands = placeOf (getD (b′ .emitRewritten) i 0) (getD (b′ .emitFrom) i 0) (getD (b′ .emitUpto) i 0) (M .index) (M .coeff) (b′ .termIndex) (b′ .termCoeff)
+
+      abbrev terms : List Term
+      terms = termsOf M model (entryAt b′ i)
+
+      parts : (rowVars M b′ (entryAt b′ i) ≡ varsOf terms) × (rowCoeffs M b′ (entryAt b′ i) ≡ coeffsOf terms)
+      parts = row-terms (entryAt b′ i) (entry-member b′ n 0 i i (omega arith) l)
+
+      all : stands .count ≡ length terms
+      unfolding entryAt
+      all =
+          count-all (getD (b′ .emitRewritten) i 0) (getD (b′ .emitFrom) i 0) (getD (b′ .emitUpto) i 0) (M .index) (M .coeff) (b′ .termIndex) (b′ .termCoeff) (length terms)
+          (ap length (parts .0) ∙ length-map (λ (u : Term). u .var) terms) (ap length (parts .1) ∙ length-map (λ (u : Term). u .coeff) terms)
+
+      pub row-place : (take (stands .count) (drop (stands .start) (choose (marked (stands .rewritten)) (b′ .termIndex) (M .index))) ≡ varsOf terms)
+          × (take (stands .count) (drop (stands .start) (choose (marked (stands .rewritten)) (b′ .termCoeff) (M .coeff))) ≡ coeffsOf terms)
+      unfolding entryAt
+      row-place =
+          let m = getD (b′ .emitRewritten) i 0 in
+          let f = getD (b′ .emitFrom) i 0 in
+          let u = getD (b′ .emitUpto) i 0 in (
+            vars-there m f u (M .index) (M .coeff) (b′ .termIndex) (b′ .termCoeff) ∙ ap (take (stands .count)) (parts .0)
+                ∙ take-all (stands .count) (varsOf terms) (omega (arith, all, length-map (λ (v : Term). v .var) terms)),
+            coeffs-there m f u (M .index) (M .coeff) (b′ .termIndex) (b′ .termCoeff) ∙ ap (take (stands .count)) (parts .1)
+                ∙ take-all (stands .count) (coeffsOf terms) (omega (arith, all, length-map (λ (v : Term). v .coeff) terms)),
+          )
+
     -- a variable that is not an integer one keeps its given bounds
     pub bounds-given : (v : ℕ) → isInt M v ≡ false → (at (take (length (M .lower)) (b′ .lower)) v ≡ at (M .lower) v) × (at (take (length (M .lower)) (b′ .upper)) v ≡ at (M .upper) v)
     unfolding reducedIn
     bounds-given = kept.bounds-given M model in-slices
 
-    -- on a farm model with dual fixing off and nothing rewritten the reduced model is of whole numbers, and has exactly the input's points
-    pub same-points : M .params ≡ params → WholeNumbers M → M .mode ≡ 1 → k .coeffsTightened ≡ 0 → WholeReduced M model × ((y : ℕ → ℤ) → MeetsReduced M model y ↔ Point M y)
+    -- on a farm model, dual fixing off or on and coefficients rewritten or not, the reduced bounds are whole numbers of the given box, in order
+    pub bounds-whole : WholeNumbers M → WholeBounds M model
+    bounds-whole f = answer-whole M (record { shape = shaped; numbers = f }) in-slices
+
+-- ---- OF THE ENTRY'S OWN MODEL: `modelOf` (refuse) of a call's numbers, with the Rust's parameters
+module _ {obj lower upper : List Float} {domain starts index : List ℕ} {coeff : List Float} {cmp : List ℕ} {rhs : List Float} {mode : ℕ} {feas intTol : Float}
+    {b b′ : Results} {x x′ : Working} {z : Answer} (p : Promise (modelOf obj lower upper domain starts index coeff cmp rhs mode feas intTol) b x z b′ x′) where
+  abbrev called : Model
+  called = modelOf obj lower upper domain starts index coeff cmp rhs mode feas intTol
+
+  -- at most 30 waves
+  pub waves-infeasible : (k : Counts) → answerIs z ≡ infeasible k → k .passes ≤ 30
+  waves-infeasible k e = omega (arith, kept.waves-bounded-infeasible called k ((infeasible-exactly p k .0 e) .1), kept.thirty)
+
+  -- DEMAND 3, infeasible: on a farm model with dual fixing off and nothing rewritten there is no point
+  pub no-point : WholeNumbers called → mode ≡ 1 → (k : Counts) → answerIs z ≡ infeasible k → k .coeffsTightened ≡ 0 → (y : ℕ → ℤ) → Point called y → ⊥
+  no-point f one k e =
+      let r = infeasible-exactly p k .0 e in
+      subst (Exact called) (r .1) (points-kept called (record { shape = accepted-shaped called (lengths b x) (r .0); numbers = f }) one refl)
+
+  module _ {k : Counts} {n t q : ℕ} {g : Bool} (e : answerIs z ≡ presolved k n t q g) where
+    pub waves-run : k .passes ≤ 30
     unfolding reducedIn
-    same-points s f one =
-        subst (Exact M) in-slices (points-kept M (record { shape = shaped; numbers = f }) one s)
+    waves-run = omega (arith, kept.waves-bounded called (model p e) (in-slices p e), kept.thirty)
+
+    -- on a farm model with dual fixing off and nothing rewritten the reduced model is of whole numbers, and has exactly the input's points
+    pub same-points : WholeNumbers called → mode ≡ 1 → k .coeffsTightened ≡ 0
+        → WholeReduced called (model p e) × ((y : ℕ → ℤ) → MeetsReduced called (model p e) y ↔ Point called y)
+    unfolding reducedIn
+    same-points f one = subst (Exact called) (in-slices p e) (points-kept called (record { shape = shaped p e; numbers = f }) one refl)

@@ -3,7 +3,7 @@ use Prim.Native.Nat.{ℕ, zero, suc, _+_, _<_}
 use native.Mathlib.Omega.{arith}
 use mathlib.Core.Path.{_≡_, refl, ap, sym, _∙_}
 use mathlib.Core.Bool.{Bool, false}
-use mathlib.Core.List.{List, [], _∷_, map}
+use mathlib.Core.List.{List, [], _∷_, map, List·Memᴰ, List·Memᴰ·head, List·Memᴰ·tail}
 use lib.ListN.{length, getD, take, drop, drop-of-length-le, List·getD-append, List·getD-map}
 use lib.Seq.{drop-cons, take-append-seam}
 use lib.Ieee.{nan}
@@ -11,7 +11,7 @@ use Rattle.tolerances.specs.Tol.{Term, term, at}
 use Rattle.definition.specs.declared.Counts.{Counts}
 use Rattle.definition.specs.Model.{Model, Emit, Reduced}
 use Rattle.view.specs.Lists.{length-map}
-use Rattle.emit.specs.RowMark.{mark, marked, marked-mark}
+use Rattle.row_terms.specs.RowMark.{mark, marked, marked-mark}
 use Rattle.emit.specs.Filling.{over}
 use Rattle.output.specs.Results.{Results, written}
 
@@ -27,6 +27,12 @@ pub entries-length : (b : Results) (n i : ℕ) → length (entriesFrom b n i) �
 unfolding entriesFrom
 entries-length b zero i = refl
 entries-length b (suc n) i = ap suc (entries-length b n (suc i))
+
+pub entry-member : (b : Results) (n i j d : ℕ) → j ≡ i + d → d < n → List·Memᴰ (entryAt b j) (entriesFrom b n i)
+unfolding entriesFrom
+entry-member b zero i j d e l = absurd (omega (arith, l))
+entry-member b (suc n) i j zero e l = let q : j ≡ i = omega (arith, e) in List·Memᴰ·head (ap (entryAt b) q)
+entry-member b (suc n) i j (suc d) e l = List·Memᴰ·tail (entry-member b n (suc i) j d (omega (arith, e)) (omega (arith, l)))
 
 -- the terms of the rewritten rows stand in two
 unfoldable pub termsFrom : Results → ℕ → ℕ → List Term
@@ -109,5 +115,11 @@ pub reduced-in : (M : Model) (a : Reduced) (b : Results) → length (a .lower) �
     → reducedIn M (written a b) (a .counts) (length (a .emitted)) (length (a .terms)) (length (a .kept)) (a .flag) ≡ a
 unfolding reducedIn
 reduced-in M a b l u =
-    rw (lower-front a b (length (M .lower)) l, upper-front a b (length (M .lower)) u, entries-are a b (length (a .emitted)) 0 (omega arith), terms-are a b (length (a .terms)) 0 (omega arith), kept-front a b (length (a .kept)) refl)
+    rw (
+      lower-front a b (length (M .lower)) l,
+      upper-front a b (length (M .lower)) u,
+      entries-are a b (length (a .emitted)) 0 (omega arith),
+      terms-are a b (length (a .terms)) 0 (omega arith),
+      kept-front a b (length (a .kept)) refl,
+    )
     refl

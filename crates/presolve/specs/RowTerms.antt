@@ -1,8 +1,7 @@
--- THE TERMS OF AN EMITTED ROW as they are read: emit's `row_vars` and `row_coeffs` return the part between the ends of its span, of the model's lists or of the
--- rewritten ones, and that is the definition's.
-use Prim.Native.Nat.{ℕ, zero, suc, _-_, _≤_}
+-- THE TERMS OF AN EMITTED ROW as they are read: `row_vars` and `row_coeffs` (crate row_terms) return the part between the ends of its span, of the model's lists
+-- or of the rewritten ones, and that is the definition's.
+use Prim.Native.Nat.{ℕ, zero, suc, _≤_}
 use native.Mathlib.Omega.{arith}
-use native.Mathlib.Nat.{sub-zero, zero-sub, suc-sub-suc}
 use mathlib.Core.Path.{_≡_, refl, ap, sym, _∙_, subst}
 use mathlib.Core.Logic.{⊎-elim}
 use mathlib.Core.Bool.{Bool, true, false}
@@ -13,19 +12,20 @@ use lib.Ieee.{Float}
 use Rattle.floats.specs.Num.{choose}
 use Rattle.tolerances.specs.Tol.{Term, zipTerms}
 use Rattle.definition.specs.Model.{Model, Emit, Reduced}
-use Rattle.definition.specs.RowsKept.Statements.{All, noOne, each}
-use Rattle.definition.specs.PointsKept.Statements.{termsOf}
+use Rattle.rows_kept.specs.Statements.{All, noOne, each}
+use Rattle.points_kept.specs.Statements.{termsOf}
 use Rattle.view.specs.Lists.{length-map}
+use Rattle.row_terms.specs.Parts.{rowPart, part}
 use Rattle.emit.specs.Filling.{over}
 use Rattle.emit.specs.Terms.{varsOf, coeffsOf}
 use Rattle.output.specs.Results.{Results, written}
 
 -- what the two readers return, given the model's lists and the caller's
 abbrev pub rowVars : Model → Results → Emit → List ℕ
-rowVars M b e = slice (e .from) (e .upto) (choose (e .rewritten) (b .termIndex) (M .index))
+rowVars M b e = rowPart (e .rewritten) (e .from) (e .upto) (M .index) (b .termIndex)
 
 abbrev pub rowCoeffs : Model → Results → Emit → List Float
-rowCoeffs M b e = slice (e .from) (e .upto) (choose (e .rewritten) (b .termCoeff) (M .coeff))
+rowCoeffs M b e = rowPart (e .rewritten) (e .from) (e .upto) (M .coeff) (b .termCoeff)
 
 -- ---- a member of a list each of which has P
 pub all-member : {A : Type 0} {P : A → Type 0} {xs : List A} → All P xs → (x : A) → List·Memᴰ x xs → P x
@@ -34,16 +34,6 @@ all-member {P = P} (each p ps) x m = ⊎-elim (λ q. subst P (sym q) p) (λ i. a
 
 -- ---- a part of a list
 module _ {A : Type 0} where
-  take-nil : (n : ℕ) → _≡_ {A = List A} (take n []) []
-  take-nil zero = refl
-  take-nil (suc n) = refl
-
-  part : (f t : ℕ) (l : List A) → slice f t l ≡ take (t - f) (drop f l)
-  part zero t l = rw (sub-zero t) refl
-  part (suc f) zero l = rw (zero-sub (suc f)) refl
-  part (suc f) (suc t) [] = sym (take-nil (suc t - suc f))
-  part (suc f) (suc t) (x ∷ xs) = rw (suc-sub-suc t f) (part f t xs)
-
   map-part : {B : Type 0} (g : A → B) (f t : ℕ) (l : List A) → map g (slice f t l) ≡ slice f t (map g l)
   map-part g zero zero l = refl
   map-part g (suc f) zero l = refl
@@ -71,7 +61,7 @@ coeffs-zipped (i ∷ is) (c ∷ cs) e = ap (λ (r : List Float). c ∷ r) (coeff
 module _ (M : Model) (a : Reduced) (e : Emit) (inside : e .rewritten ≡ true → e .upto ≤ length (a .terms)) where
   -- g is a term's variable, or its coefficient; l the model's list of them, old what the caller's list had
   part-is : {B : Type 0} (g : Term → B) (l old : List B) → map g (zipTerms (slice (e .from) (e .upto) (M .index)) (slice (e .from) (e .upto) (M .coeff))) ≡ slice (e .from) (e .upto) l
-      → slice (e .from) (e .upto) (choose (e .rewritten) (over (map g (a .terms)) old) l) ≡ map g (termsOf M a e)
+      → rowPart (e .rewritten) (e .from) (e .upto) l (over (map g (a .terms)) old) ≡ map g (termsOf M a e)
   unfolding termsOf choose
   part-is {B} g l old h = go (e .rewritten) refl
     where
@@ -81,7 +71,7 @@ module _ (M : Model) (a : Reduced) (e : Emit) (inside : e .rewritten ≡ true �
       t : ℕ
       t = e .upto
 
-      go : (k : Bool) → e .rewritten ≡ k → slice f t (choose (e .rewritten) (over (map g (a .terms)) old) l) ≡ map g (termsOf M a e)
+      go : (k : Bool) → e .rewritten ≡ k → rowPart (e .rewritten) f t l (over (map g (a .terms)) old) ≡ map g (termsOf M a e)
       go true y =
           rw y
           (ap (drop f) (take-append-le t (map g (a .terms)) _ (omega (arith, inside y, length-map g (a .terms))))

@@ -47,9 +47,12 @@ second-is (some k) a = refl
 second-is none (definition.infeasible k) = refl
 second-is none (definition.done a) = go (a .flag)
   where
-    go : (g : Bool) → choose g (reduced (a .counts) (length (a .emitted)) (length (a .terms)) (length (a .kept)) g) noModel ≡ secondOf none (choose g (some (record { counts = a .counts; lower = a .lower; upper = a .upper; emitted = a .emitted; terms = a .terms; kept = a .kept; flag = g })) none)
+    go : (g : Bool) → choose g (reduced (a .counts) (length (a .emitted)) (length (a .terms)) (length (a .kept)) g) noModel
+        ≡ secondOf none (choose g
+        (some (record { counts = a .counts; lower = a .lower; upper = a .upper; emitted = a .emitted; terms = a .terms; kept = a .kept; flag = g })) none)
     go true = refl
     go false = refl
 
-pub reduced-model : {M : Model} {b b′ : Results} {x x′ : Working} {z : Answer} (y : code.SecondAnswer) → Promise M b x z b′ x′ → secondIs y ≡ second (answerIs z) → secondIs y ≡ secondOf (refusal M (lengths b x)) (reducedModel (presolve M))
+pub reduced-model : {M : Model} {b b′ : Results} {x x′ : Working} {z : Answer} (y : code.SecondAnswer) → Promise M b x z b′ x′
+    → secondIs y ≡ second (answerIs z) → secondIs y ≡ secondOf (refusal M (lengths b x)) (reducedModel (presolve M))
 reduced-model {M} {b} {x = x} y p e = e ∙ ap second (p .answer) ∙ second-is (refusal M (lengths b x)) (presolve M)

@@ -43,12 +43,14 @@ use Rattle.presolve.specs.declared.Answer.{Answer}
 use Rattle.presolve.specs.Promise.{Working, working, lengths, refused, infeasible, presolved, answerIs, outcome, resultsAfter, workingAfter, Promise}
 
 -- ---- clear
-pub all-zero : (f : List Float) (n j : List ℕ) {f′ : List Float} {n′ j′ : List ℕ} → f′ ≡ replicate (length f) 0f → n′ ≡ replicate (length n) 0 → j′ ≡ replicate (length j) 0 → working f′ n′ j′ ≡ workingAfter none (working f n j)
+pub all-zero : (f : List Float) (n j : List ℕ) {f′ : List Float} {n′ j′ : List ℕ} → f′ ≡ replicate (length f) 0f → n′ ≡ replicate (length n) 0
+    → j′ ≡ replicate (length j) 0 → working f′ n′ j′ ≡ workingAfter none (working f n j)
 unfolding workingAfter
 all-zero f n j a b c = rw (a, b, c) refl
 
 -- only the lengths matter of what was there
-pub same-space : (x y : Working) → length (y .floats) ≡ length (x .floats) → length (y .numbers) ≡ length (x .numbers) → length (y .adjacency) ≡ length (x .adjacency) → workingAfter none y ≡ workingAfter none x
+pub same-space : (x y : Working) → length (y .floats) ≡ length (x .floats) → length (y .numbers) ≡ length (x .numbers)
+    → length (y .adjacency) ≡ length (x .adjacency) → workingAfter none y ≡ workingAfter none x
 unfolding workingAfter
 same-space x y a b c = rw (a, b, c) refl
 
@@ -56,7 +58,8 @@ pub still-holds : {n l l′ : ℕ} → l′ ≡ l → n ≤ l → n ≤ l′
 still-holds e p = omega (arith, e, p)
 
 -- ---- a refusal
-pub promise-refused : {M : Model} {b : Results} {x : Working} (k : ℕ) {y : refuse.Refusal} {z : Answer} → refusedIs y ≡ refusal M (lengths b x) → y ≡ Number k → answerIs z ≡ refused k → Promise M b x z b x
+pub promise-refused : {M : Model} {b : Results} {x : Working} (k : ℕ) {y : refuse.Refusal} {z : Answer} → refusedIs y ≡ refusal M (lengths b x) → y ≡ Number k
+    → answerIs z ≡ refused k → Promise M b x z b x
 unfolding outcome resultsAfter workingAfter
 promise-refused {M} {b} {x} k t g a =
     let e : refusal M (lengths b x) ≡ some k = sym t ∙ ap refusedIs g in
@@ -120,7 +123,11 @@ module _ {M : Model} {b : Results} {x : Working} {s : Shape} (a : Accepted M b x
   Rows = answered.Given (M .lower) (M .upper) (M .starts) (M .index) (M .coeff) (M .cmp) (M .rhs)
 
   called : Here M
-  called = record { obj = refl; handed = record { limits = record { lower = refl; upper = refl; domain = refl; intTol = refl }; written = record { starts = refl; index = refl; coeff = refl; cmp = refl; rhs = refl } }; mode = refl }
+  called = record {
+    obj = refl;
+    handed = record { limits = record { lower = refl; upper = refl; domain = refl; intTol = refl }; written = record { starts = refl; index = refl; coeff = refl; cmp = refl; rhs = refl } };
+    mode = refl;
+  }
 
   given : Rows M
   given = record { lower = refl; upper = refl; rows = record { starts = refl; index = refl; coeff = refl; cmp = refl; rhs = refl } }

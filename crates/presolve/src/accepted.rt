@@ -9,7 +9,7 @@ use crate::ending::stopped;
 use space::Shape;
 use space::Step;
 
-pub fn accepted(
+pub(crate) fn accepted(
     obj: &[f64],
     lower: &[f64],
     upper: &[f64],
@@ -36,8 +36,17 @@ pub fn accepted(
     numbers: &mut [usize],
     adjacency: &mut [usize],
 ) -> Answer
-    requires { ⌜ Passes (modelOf (now obj) (now lower) (now upper) (now domain) (now starts) (now index) (now coeff) (now cmp) (now rhs) mode feas «int_tol») (results (now «out_lower») (now «out_upper») (now «emit_row») (now «emit_rewritten») (now «emit_rhs») (now «emit_from») (now «emit_upto») (now kept) (now «term_index») (now «term_coeff»)) (working (now floats) (now numbers) (now adjacency)) ⌝ }
-    ensures { λ z. ⌜ Promise (modelOf (now (obj .entry)) (now (lower .entry)) (now (upper .entry)) (now (domain .entry)) (now (starts .entry)) (now (index .entry)) (now (coeff .entry)) (now (cmp .entry)) (now (rhs .entry)) mode feas «int_tol») (results (now («out_lower» .entry)) (now («out_upper» .entry)) (now («emit_row» .entry)) (now («emit_rewritten» .entry)) (now («emit_rhs» .entry)) (now («emit_from» .entry)) (now («emit_upto» .entry)) (now (kept .entry)) (now («term_index» .entry)) (now («term_coeff» .entry))) (working (now (floats .entry)) (now (numbers .entry)) (now (adjacency .entry))) z (results (now («out_lower» .exit)) (now («out_upper» .exit)) (now («emit_row» .exit)) (now («emit_rewritten» .exit)) (now («emit_rhs» .exit)) (now («emit_from» .exit)) (now («emit_upto» .exit)) (now (kept .exit)) (now («term_index» .exit)) (now («term_coeff» .exit))) (working (now (floats .exit)) (now (numbers .exit)) (now (adjacency .exit))) ⌝ }
+    requires { ⌜ Passes (modelOf (now obj) (now lower) (now upper) (now domain) (now starts) (now index) (now coeff) (now cmp) (now rhs) mode feas «int_tol»)
+        (results (now «out_lower») (now «out_upper») (now «emit_row») (now «emit_rewritten») (now «emit_rhs») (now «emit_from») (now «emit_upto») (now kept)
+        (now «term_index») (now «term_coeff»)) (working (now floats) (now numbers) (now adjacency)) ⌝ }
+    ensures { λ z. ⌜ Promise (modelOf (now (obj .entry)) (now (lower .entry)) (now (upper .entry)) (now (domain .entry)) (now (starts .entry))
+        (now (index .entry)) (now (coeff .entry)) (now (cmp .entry)) (now (rhs .entry)) mode feas «int_tol»)
+        (results (now («out_lower» .entry)) (now («out_upper» .entry)) (now («emit_row» .entry)) (now («emit_rewritten» .entry)) (now («emit_rhs» .entry))
+        (now («emit_from» .entry)) (now («emit_upto» .entry)) (now (kept .entry)) (now («term_index» .entry)) (now («term_coeff» .entry)))
+        (working (now (floats .entry)) (now (numbers .entry)) (now (adjacency .entry))) z
+        (results (now («out_lower» .exit)) (now («out_upper» .exit)) (now («emit_row» .exit)) (now («emit_rewritten» .exit)) (now («emit_rhs» .exit))
+        (now («emit_from» .exit)) (now («emit_upto» .exit)) (now (kept .exit)) (now («term_index» .exit)) (now («term_coeff» .exit)))
+        (working (now (floats .exit)) (now (numbers .exit)) (now (adjacency .exit))) ⌝ }
 {
     let vars = obj.len();
     let rows = rhs.len();

@@ -13,7 +13,8 @@ use space::Shape;
 
 // Zeros over the whole lent lengths.
 fn clear(floats: &mut [f64], numbers: &mut [usize], adjacency: &mut [usize])
-    ensures { λ _. ⌜ (working (now (floats .exit)) (now (numbers .exit)) (now (adjacency .exit))) ≡ workingAfter none (working (now (floats .entry)) (now (numbers .entry)) (now (adjacency .entry))) ⌝ }
+    ensures { λ _. ⌜ (working (now (floats .exit)) (now (numbers .exit)) (now (adjacency .exit))) ≡ workingAfter none
+        (working (now (floats .entry)) (now (numbers .entry)) (now (adjacency .entry))) ⌝ }
 {
     zeros::clear_floats(floats);
     zeros::clear_numbers(numbers);
@@ -21,7 +22,7 @@ fn clear(floats: &mut [f64], numbers: &mut [usize], adjacency: &mut [usize])
 }
 
 // Infeasible, with the counts reached.
-pub fn stopped(
+pub(crate) fn stopped(
     floats: &mut [f64],
     numbers: &mut [usize],
     adjacency: &mut [usize],
@@ -29,7 +30,8 @@ pub fn stopped(
 ) -> Answer
     requires { ⌜ HoldsN s (now numbers) ⌝ }
     ensures { λ z. ⌜ answerIs z ≡ infeasible (countsOf (numbersOf s (now (numbers .entry)))) ⌝ }
-    ensures { λ _. ⌜ (working (now (floats .exit)) (now (numbers .exit)) (now (adjacency .exit))) ≡ workingAfter none (working (now (floats .entry)) (now (numbers .entry)) (now (adjacency .entry))) ⌝ }
+    ensures { λ _. ⌜ (working (now (floats .exit)) (now (numbers .exit)) (now (adjacency .exit))) ≡ workingAfter none
+        (working (now (floats .entry)) (now (numbers .entry)) (now (adjacency .entry))) ⌝ }
 {
     let k = output::read_counts(numbers, s);
     clear(floats, numbers, adjacency);
@@ -37,7 +39,7 @@ pub fn stopped(
 }
 
 // A model, which is written to the result slices.
-pub fn finished(
+pub(crate) fn finished(
     lower: &[f64],
     upper: &[f64],
     starts: &[usize],
@@ -61,10 +63,17 @@ pub fn finished(
     adjacency: &mut [usize],
 ) -> Answer
     requires { ⌜ HoldsF s (now floats) × HoldsN s (now numbers) ⌝ }
-    requires { ⌜ Room s (results (now «out_lower») (now «out_upper») (now «emit_row») (now «emit_rewritten») (now «emit_rhs») (now «emit_from») (now «emit_upto») (now kept) (now «term_index») (now «term_coeff»)) ⌝ }
+    requires { ⌜ Room s (results (now «out_lower») (now «out_upper») (now «emit_row») (now «emit_rewritten») (now «emit_rhs») (now «emit_from»)
+        (now «emit_upto») (now kept) (now «term_index») (now «term_coeff»)) ⌝ }
     requires { ⌜ Ready (Given (now lower) (now upper) (now starts) (now index) (now coeff) (now cmp) (now rhs)) s (floatsOf s (now floats)) (numbersOf s (now numbers)) ⌝ }
-    ensures { λ z. ⌜ Finished (Given (now (lower .entry)) (now (upper .entry)) (now (starts .entry)) (now (index .entry)) (now (coeff .entry)) (now (cmp .entry)) (now (rhs .entry))) s (floatsOf s (now (floats .entry))) (numbersOf s (now (numbers .entry))) z (results (now («out_lower» .entry)) (now («out_upper» .entry)) (now («emit_row» .entry)) (now («emit_rewritten» .entry)) (now («emit_rhs» .entry)) (now («emit_from» .entry)) (now («emit_upto» .entry)) (now (kept .entry)) (now («term_index» .entry)) (now («term_coeff» .entry))) (results (now («out_lower» .exit)) (now («out_upper» .exit)) (now («emit_row» .exit)) (now («emit_rewritten» .exit)) (now («emit_rhs» .exit)) (now («emit_from» .exit)) (now («emit_upto» .exit)) (now (kept .exit)) (now («term_index» .exit)) (now («term_coeff» .exit))) ⌝ }
-    ensures { λ _. ⌜ (working (now (floats .exit)) (now (numbers .exit)) (now (adjacency .exit))) ≡ workingAfter none (working (now (floats .entry)) (now (numbers .entry)) (now (adjacency .entry))) ⌝ }
+    ensures { λ z. ⌜ Finished (Given (now (lower .entry)) (now (upper .entry)) (now (starts .entry)) (now (index .entry)) (now (coeff .entry))
+        (now (cmp .entry)) (now (rhs .entry))) s (floatsOf s (now (floats .entry))) (numbersOf s (now (numbers .entry))) z
+        (results (now («out_lower» .entry)) (now («out_upper» .entry)) (now («emit_row» .entry)) (now («emit_rewritten» .entry)) (now («emit_rhs» .entry))
+        (now («emit_from» .entry)) (now («emit_upto» .entry)) (now (kept .entry)) (now («term_index» .entry)) (now («term_coeff» .entry)))
+        (results (now («out_lower» .exit)) (now («out_upper» .exit)) (now («emit_row» .exit)) (now («emit_rewritten» .exit)) (now («emit_rhs» .exit))
+        (now («emit_from» .exit)) (now («emit_upto» .exit)) (now (kept .exit)) (now («term_index» .exit)) (now («term_coeff» .exit))) ⌝ }
+    ensures { λ _. ⌜ (working (now (floats .exit)) (now (numbers .exit)) (now (adjacency .exit))) ≡ workingAfter none
+        (working (now (floats .entry)) (now (numbers .entry)) (now (adjacency .entry))) ⌝ }
 {
     let r = output::write_results(
         lower,

@@ -1,5 +1,6 @@
 // src/presolve/mod.rs of microlp 0.7.0, changed: `presolve` as one call over lent slices, and
 // `reduced_model` above it.
+// The refusals, the lent slices and the zeros that they are left with are the port's own.
 mod accepted;
 mod ending;
 
@@ -57,7 +58,14 @@ pub fn presolve(
     numbers: &mut [usize],
     adjacency: &mut [usize],
 ) -> Answer
-    ensures { λ z. ⌜ Promise (modelOf (now (obj .entry)) (now (lower .entry)) (now (upper .entry)) (now (domain .entry)) (now (starts .entry)) (now (index .entry)) (now (coeff .entry)) (now (cmp .entry)) (now (rhs .entry)) mode feas «int_tol») (results (now («out_lower» .entry)) (now («out_upper» .entry)) (now («emit_row» .entry)) (now («emit_rewritten» .entry)) (now («emit_rhs» .entry)) (now («emit_from» .entry)) (now («emit_upto» .entry)) (now (kept .entry)) (now («term_index» .entry)) (now («term_coeff» .entry))) (working (now (floats .entry)) (now (numbers .entry)) (now (adjacency .entry))) z (results (now («out_lower» .exit)) (now («out_upper» .exit)) (now («emit_row» .exit)) (now («emit_rewritten» .exit)) (now («emit_rhs» .exit)) (now («emit_from» .exit)) (now («emit_upto» .exit)) (now (kept .exit)) (now («term_index» .exit)) (now («term_coeff» .exit))) (working (now (floats .exit)) (now (numbers .exit)) (now (adjacency .exit))) ⌝ }
+    ensures { λ z. ⌜ Promise (modelOf (now (obj .entry)) (now (lower .entry)) (now (upper .entry)) (now (domain .entry)) (now (starts .entry))
+        (now (index .entry)) (now (coeff .entry)) (now (cmp .entry)) (now (rhs .entry)) mode feas «int_tol»)
+        (results (now («out_lower» .entry)) (now («out_upper» .entry)) (now («emit_row» .entry)) (now («emit_rewritten» .entry)) (now («emit_rhs» .entry))
+        (now («emit_from» .entry)) (now («emit_upto» .entry)) (now (kept .entry)) (now («term_index» .entry)) (now («term_coeff» .entry)))
+        (working (now (floats .entry)) (now (numbers .entry)) (now (adjacency .entry))) z
+        (results (now («out_lower» .exit)) (now («out_upper» .exit)) (now («emit_row» .exit)) (now («emit_rewritten» .exit)) (now («emit_rhs» .exit))
+        (now («emit_from» .exit)) (now («emit_upto» .exit)) (now (kept .exit)) (now («term_index» .exit)) (now («term_coeff» .exit)))
+        (working (now (floats .exit)) (now (numbers .exit)) (now (adjacency .exit))) ⌝ }
 {
     let lent = Lent {
         lower: out_lower.len(),

@@ -96,7 +96,10 @@ module _ {M : Model} {b b′ : Results} {x x′ : Working} {ans ans′ : List �
 
   -- 1 to 10: exactly the table's refusals
   pub refused-exactly : (k : ℕ) → ((z ≡ k) × (1 ≤ k) × (k ≤ 10)) ↔ (table ≡ some k)
-  refused-exactly k = ((λ h. refused-by table (presolve M) k (sym (p .code) ∙ h .0) (h .1) (h .2)), (λ e. let n = numbered M (lengths b x) (length ans) .is k e in (p .code ∙ refused-of table (presolve M) k e, n .0, n .1)))
+  refused-exactly k = (
+    (λ h. refused-by table (presolve M) k (sym (p .code) ∙ h .0) (h .1) (h .2)),
+    (λ e. let n = numbered M (lengths b x) (length ans) .is k e in (p .code ∙ refused-of table (presolve M) k e, n .0, n .1)),
+  )
 
   -- 0: the definition's model stands in the result slices, and its nine numbers in the answer's
   pub record ModelTold : Type 0 where

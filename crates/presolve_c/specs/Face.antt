@@ -11,6 +11,7 @@ use Rattle.definition.specs.declared.Counts.{Counts}
 use Rattle.definition.specs.Model.{Model}
 use Rattle.definition.specs.Presolve.{presolve}
 use Rattle.definition.specs.Refusal.{Lent, refusal}
+use Rattle.row_terms.specs.declared.Place.{Place}
 use Rattle.emit.specs.Filling.{over}
 use Rattle.output.specs.Results.{Results}
 use Rattle.presolve.specs.Promise.{Working, lengths, Outcome, refused, infeasible, presolved, outcome, resultsAfter, workingAfter}
@@ -59,3 +60,7 @@ pub record FacePromise (M : Model) (b : Results) (x : Working) (ans : List ℕ) 
   pub answer : ans′ ≡ over (numbersOf (outcome (faceRefusal M (lengths b x) (length ans)) (presolve M))) ans
   pub results : b′ ≡ resultsAfter (faceRefusal M (lengths b x) (length ans)) (presolve M) b
   pub working : x′ ≡ workingAfter (faceRefusal M (lengths b x) (length ans)) x
+
+-- ---- where an emitted row's terms stand, as C gets it: what is returned, and the two numbers that are written
+abbrev pub place : ℕ → ℕ → ℕ → Place
+place z s n = record { rewritten = z; start = s; count = n }

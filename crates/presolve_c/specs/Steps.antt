@@ -62,7 +62,8 @@ pub told-infeasible : {a : Answer} {k : Counts} {ans ans′ : List ℕ} → a �
 unfolding codeOf numbersOf
 told-infeasible {ans = ans} {ans′} e f = subst (λ (y : Answer). Told (answerIs y) ans 100 ans′) (sym e) (record { code = refl; answer = f })
 
-pub told-model : {a : Answer} {r : Reduced} {ans ans′ : List ℕ} → a ≡ Presolved r → ans′ ≡ over (nineOf (r .counts) (r .emitted) (r .terms) (r .kept) (flagNumber (r .flag))) ans → Told (answerIs a) ans 0 ans′
+pub told-model : {a : Answer} {r : Reduced} {ans ans′ : List ℕ} → a ≡ Presolved r
+    → ans′ ≡ over (nineOf (r .counts) (r .emitted) (r .terms) (r .kept) (flagNumber (r .flag))) ans → Told (answerIs a) ans 0 ans′
 unfolding codeOf numbersOf
 told-model {ans = ans} {ans′} e f = subst (λ (y : Answer). Told (answerIs y) ans 0 ans′) (sym e) (record { code = refl; answer = f })
 
@@ -100,7 +101,8 @@ pub long-is : (M : Model) (L : Lent) (n : ℕ) → 9 ≤ n → faceRefusal M L n
 unfolding faceRefusal shortAnswer
 long-is M L n p = ap (orElse (refusal M L)) (no _ _ (le-ltb n 9 p)) ∙ else-none (refusal M L)
 
-pub promise-told : {M : Model} {b b′ : Results} {x x′ : Working} {ans ans′ : List ℕ} {a : Answer} {z : ℕ} → 9 ≤ length ans → Promise M b x a b′ x′ → Told (answerIs a) ans z ans′ → FacePromise M b x ans z b′ x′ ans′
+pub promise-told : {M : Model} {b b′ : Results} {x x′ : Working} {ans ans′ : List ℕ} {a : Answer} {z : ℕ} → 9 ≤ length ans → Promise M b x a b′ x′
+    → Told (answerIs a) ans z ans′ → FacePromise M b x ans z b′ x′ ans′
 promise-told {M} {b} {x = x} {ans = ans} n p t =
     let r : refusal M (lengths b x) ≡ faceRefusal M (lengths b x) (length ans) = sym (long-is M (lengths b x) (length ans) n) in
     let o = p .answer ∙ ap (λ (u : Option ℕ). outcome u (presolve M)) r in

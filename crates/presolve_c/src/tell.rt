@@ -52,7 +52,7 @@ fn put_model(x: Reduced, answer: &mut [usize])
 }
 
 // The code, and the numbers at the front of `answer`.
-pub fn tell(a: Answer, answer: &mut [usize]) -> u8
+pub(crate) fn tell(a: Answer, answer: &mut [usize]) -> u8
     requires { ⌜ 9 ≤ length (now answer) ⌝ }
     ensures { λ z. ⌜ Told (answerIs a) (now (answer .entry)) z (now (answer .exit)) ⌝ }
 {
@@ -70,7 +70,7 @@ pub fn tell(a: Answer, answer: &mut [usize]) -> u8
 }
 
 // The code where `answer` is too short for a model: an earlier refusal comes first.
-pub fn short_answer(
+pub(crate) fn short_answer(
     obj: &[f64],
     lower: &[f64],
     upper: &[f64],
@@ -85,7 +85,8 @@ pub fn short_answer(
     int_tol: f64,
     lent: Lent,
 ) -> u8
-    ensures { λ z. ⌜ orElse (refusal (modelOf (now (obj .entry)) (now (lower .entry)) (now (upper .entry)) (now (domain .entry)) (now (starts .entry)) (now (index .entry)) (now (coeff .entry)) (now (cmp .entry)) (now (rhs .entry)) mode feas «int_tol») (lentOf lent)) (some 10) ≡ some z ⌝ }
+    ensures { λ z. ⌜ orElse (refusal (modelOf (now (obj .entry)) (now (lower .entry)) (now (upper .entry)) (now (domain .entry)) (now (starts .entry))
+        (now (index .entry)) (now (coeff .entry)) (now (cmp .entry)) (now (rhs .entry)) mode feas «int_tol») (lentOf lent)) (some 10) ≡ some z ⌝ }
 {
     match refuse::refused(
         obj,

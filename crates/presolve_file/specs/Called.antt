@@ -11,8 +11,8 @@ use Rattle.definition.specs.Model as definition
 use Rattle.definition.specs.Model.{Model, Emit, done}
 use Rattle.definition.specs.Presolve.{presolve}
 use Rattle.definition.specs.Refusal.{Lent, refusal}
-use Rattle.definition.specs.RowsKept.Theorems.{bounds-lengths}
-use Rattle.emit.specs.RowMark.{mark}
+use Rattle.rows_kept.specs.Theorems.{bounds-lengths}
+use Rattle.row_terms.specs.RowMark.{mark}
 use Rattle.emit.specs.Filling.{over}
 use Rattle.output.specs.declared.Reduced.{Reduced}
 use Rattle.output.specs.Results.{Results, written}

@@ -28,7 +28,8 @@ front t old = (part (length t) (over t old) (omega (arith, length-append t (drop
 
 -- ---- what was printed, by whether it fits
 module _ (t old : List ℕ) where
-  bytes-by : (b : Bool) {k : ℕ} {l : List ℕ} → outcome (Printed.Bytes k) l ≡ choose b (outcome (Printed.Bytes (length t)) (t ++ drop (length t) old)) (outcome Printed.NoRoom old) → Part k l × ((take k l ≡ choose b t []) × (l ≡ over (choose b t []) old))
+  bytes-by : (b : Bool) {k : ℕ} {l : List ℕ} → outcome (Printed.Bytes k) l ≡ choose b (outcome (Printed.Bytes (length t)) (t ++ drop (length t) old))
+      (outcome Printed.NoRoom old) → Part k l × ((take k l ≡ choose b t []) × (l ≡ over (choose b t []) old))
   unfolding choose
   bytes-by true {k} {l} e =
       let a : Printed.Bytes k ≡ Printed.Bytes (length t) = ap (λ (o : Outcome). o .answer) e in
@@ -37,7 +38,8 @@ module _ (t old : List ℕ) where
       rw (p, q) (front t old)
   bytes-by false {k} e = absurd (let a : Printed.Bytes k ≡ Printed.NoRoom = ap (λ (o : Outcome). o .answer) e in let z : _≡_ {A = ℕ} 0 1 = cc in omega arith)
 
-  none-by : (b : Bool) {l : List ℕ} → outcome Printed.NoRoom l ≡ choose b (outcome (Printed.Bytes (length t)) (t ++ drop (length t) old)) (outcome Printed.NoRoom old) → Part 0 l × ((take 0 l ≡ choose b t []) × (l ≡ over (choose b t []) old))
+  none-by : (b : Bool) {l : List ℕ} → outcome Printed.NoRoom l ≡ choose b (outcome (Printed.Bytes (length t)) (t ++ drop (length t) old))
+      (outcome Printed.NoRoom old) → Part 0 l × ((take 0 l ≡ choose b t []) × (l ≡ over (choose b t []) old))
   unfolding choose
   none-by true e = absurd (let a : Printed.NoRoom ≡ Printed.Bytes (length t) = ap (λ (o : Outcome). o .answer) e in let z : _≡_ {A = ℕ} 0 1 = cc in omega arith)
   none-by false e = ((omega arith, refl), (refl, ap (λ (o : Outcome). o .buffer) e))

@@ -109,6 +109,10 @@ module _ (f : Lists) (l : Slices) (s : Small f) where
         front _ (f .rhs) (l .rhs) (sym (s .rhs)),
       )
 
+-- M is the model of a file that was read
+pub data Is (M : Model) : Decoded → Type 0 where
+  isFile : {f : Lists} → M ≡ modelIn f → Is M (file f)
+
 -- ---- what is read
 into-file : (f : Lists) (l : Slices) → Wide l → Small f → into (file f) l ≡ out (FileRead.Model (headerOf f)) (filled f l)
 unfolding into choose
@@ -149,3 +153,31 @@ module _ (s : List ℕ) (l : Slices) {r : FileRead} {l′ : Slices} (e : out r l
 
     pub read-text : modelText (frontModel h l′) ≡ fileText s
     read-text = read-model .1
+
+-- the same by what the file is, for other texts of it
+module _ (s : List ℕ) (l : Slices) (w : Wide l) where
+  number-by : (d : Decoded) {n : ℕ} {l′ : Slices} → decode s ≡ d → out (FileRead.Refused n) l′ ≡ into d l → d ≡ refusal n
+  unfolding into
+  number-by (refusal m) {n} p e = let y : FileRead.Refused n ≡ FileRead.Refused m = ap (λ (o : Out). o .answer) e in ap refusal cc
+  number-by (file f) {n} p e =
+      absurd
+      (let y : FileRead.Refused n ≡ FileRead.Model (headerOf f) = ap (λ (o : Out). o .answer) (e ∙ into-file f l w (small s f p)) in
+      let z : _≡_ {A = ℕ} 0 1 = cc in omega arith)
+
+  lists-by : (d : Decoded) {h : Header} {l′ : Slices} → decode s ≡ d → out (FileRead.Model h) l′ ≡ into d l → Is (frontModel h l′) d
+  unfolding into
+  lists-by (refusal m) {h} p e = absurd (let y : FileRead.Model h ≡ FileRead.Refused m = ap (λ (o : Out). o .answer) e in let z : _≡_ {A = ℕ} 0 1 = cc in omega arith)
+  lists-by (file f) {h} {l′} p e =
+      let y = e ∙ into-file f l w (small s f p) in
+      let x : FileRead.Model h ≡ FileRead.Model (headerOf f) = ap (λ (o : Out). o .answer) y in
+      let a : h ≡ headerOf f = cc in
+      let b : l′ ≡ filled f l = ap (λ (o : Out). o .lent) y in
+      isFile {f = f} (rw (a, b) (front-is f l (small s f p)))
+
+  pub refused-number : {n : ℕ} {r : FileRead} {l′ : Slices} → out r l′ ≡ readInto s l → r ≡ FileRead.Refused n → decode s ≡ refusal n
+  unfolding readInto
+  refused-number {l′ = l′} e q = number-by (decode s) refl (ap (λ (x : FileRead). out x l′) (sym q) ∙ e)
+
+  pub read-lists : {h : Header} {r : FileRead} {l′ : Slices} → out r l′ ≡ readInto s l → r ≡ FileRead.Model h → Is (frontModel h l′) (decode s)
+  unfolding readInto
+  read-lists {l′ = l′} e q = lists-by (decode s) refl (ap (λ (x : FileRead). out x l′) (sym q) ∙ e)

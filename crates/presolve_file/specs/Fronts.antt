@@ -61,7 +61,9 @@ callText (Presolved x) lowers uppers b = frontsText x lowers uppers b
 -- ---- what the functions print
 module _ (x : Reduced) (lowers uppers : ℕ) (b : Results) where
   pub fronts-text : {kind : Kind} {k : Counts} → kind ≡ kindOf (x .flag) → k ≡ countsOf (x .counts)
-      → answerText kind k lowers (take lowers (b .lower)) (take uppers (b .upper)) (x .emitted) (take (x .emitted) (b .emitRow)) (take (x .emitted) (b .emitRewritten)) (take (x .emitted) (b .emitRhs)) (take (x .emitted) (b .emitFrom)) (take (x .emitted) (b .emitUpto)) (take (x .terms) (b .termIndex)) (take (x .terms) (b .termCoeff)) (x .kept) (take (x .kept) (b .kept))
+      → answerText kind k lowers (take lowers (b .lower)) (take uppers (b .upper)) (x .emitted) (take (x .emitted) (b .emitRow))
+      (take (x .emitted) (b .emitRewritten)) (take (x .emitted) (b .emitRhs)) (take (x .emitted) (b .emitFrom)) (take (x .emitted) (b .emitUpto))
+      (take (x .terms) (b .termIndex)) (take (x .terms) (b .termCoeff)) (x .kept) (take (x .kept) (b .kept))
       ≡ frontsText x lowers uppers b
   unfolding frontsText
   fronts-text p q = rw (p, q)

@@ -16,11 +16,11 @@ use Rattle.tolerances.specs.Tol.{Term, at}
 use Rattle.definition.specs.Model.{Model, Emit, Reduced, done, from}
 use Rattle.definition.specs.Presolve.{presolve}
 use Rattle.definition.specs.Refusal.{Lent, someBelow, startFalls, startsWrong, boundWrong, boundsWrong, objWrong, coeffWrong, numbersWrong, toleranceWrong, tolerancesWrong, refusal}
-use Rattle.definition.specs.RowsKept.Statements.{All, noOne, each, Spans}
-use Rattle.definition.specs.RowsKept.Numbers.{finite-number}
-use Rattle.definition.specs.RowsKept.NoNan.{Numbers}
-use Rattle.definition.specs.RowsKept.Theorems.{no-eq-rewritten, no-nan, no-nan-terms}
-use Rattle.definition.specs.PointsKept.Accepted.{accepted-shaped}
+use Rattle.rows_kept.specs.Statements.{All, noOne, each, Spans}
+use Rattle.rows_kept.specs.Numbers.{finite-number}
+use Rattle.rows_kept.specs.NoNan.{Numbers}
+use Rattle.rows_kept.specs.Theorems.{no-eq-rewritten, no-nan, no-nan-terms}
+use Rattle.definition.specs.Accepted.{accepted-shaped}
 use Rattle.refuse.specs.Laws.{none-below}
 use Rattle.refuse.specs.Rows.{neither, lengths-agree}
 use Rattle.refuse.specs.Accepted.{accepted}

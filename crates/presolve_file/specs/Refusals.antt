@@ -10,8 +10,9 @@ use Rattle.floats.specs.Num.{choose}
 use Rattle.definition.specs.Model.{Model}
 use Rattle.definition.specs.Refusal.{Lent, earliest}
 use Rattle.definition.specs.Refusal as call
-use Rattle.definition.specs.RowsKept.Statements.{All, noOne, each}
-use Rattle.model_file.specs.Format.{Got, refused, got, Parser, andThen, refuse, many, byte, number, float, optional, count, code, rules, settings, values, variable, side, head, term, row, rows, end, whole, refusal, decoded, decode}
+use Rattle.rows_kept.specs.Statements.{All, noOne, each}
+use Rattle.model_file.specs.Format.{Got, refused, got, Parser, andThen, refuse, many, byte, number, float, optional, count, code, rules}
+use Rattle.model_file.specs.Format.{settings, values, variable, side, head, term, row, rows, end, whole, refusal, decoded, decode}
 
 -- ---- the reader: each parser gets something, or refuses by a number that the format has
 pub data Numbered {A : Type 0} : Got A → Type 0 where

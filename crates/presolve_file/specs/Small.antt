@@ -11,7 +11,8 @@ use Rattle.model_file.specs.declared.Variable.{Variable}
 use Rattle.model_file.specs.declared.Term.{Term}
 use Rattle.model_file.specs.declared.RowHead.{RowHead}
 use Rattle.model_file.specs.declared.Settings.{Settings}
-use Rattle.model_file.specs.Format.{Got, refused, got, andThen, refuse, byte, number, float, optional, count, code, rules, settings, variable, many, side, head, term, row, Row, rows, ends, allTerms, Lists, lists, whole, refusal, file, decoded, decode}
+use Rattle.model_file.specs.Format.{Got, refused, got, andThen, refuse, byte, number, float, optional, count, code, rules, settings, variable, many}
+use Rattle.model_file.specs.Format.{side, head, term, row, Row, rows, ends, allTerms, Lists, lists, whole, refusal, file, decoded, decode}
 use Rattle.model_file.specs.Skips.{taken, after, after-length, many-length, rows-are}
 use Rattle.model_file.specs.Leaves.{opened}
 

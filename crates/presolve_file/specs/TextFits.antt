@@ -15,12 +15,12 @@ use Rattle.definition.specs.Params.{Params, params, maxWaves}
 use Rattle.definition.specs.Model.{Model, Emit, Reduced, Answer, infeasible, done, isMip}
 use Rattle.definition.specs.Presolve.{presolve}
 use Rattle.definition.specs.Refusal as call
-use Rattle.definition.specs.RowsKept.Statements.{All, noOne, each, Rising, ends, rises, rowsOf, Consecutive, noSpan, skips, spans}
-use Rattle.definition.specs.RowsKept.Theorems.{waves-bounded, waves-bounded-infeasible, emitted-rising, kept-rising, conserved, bounds-lengths, terms-fit, spans-follow}
+use Rattle.rows_kept.specs.Statements.{All, noOne, each, Rising, ends, rises, rowsOf, Consecutive, noSpan, skips, spans}
+use Rattle.rows_kept.specs.Theorems.{waves-bounded, waves-bounded-infeasible, emitted-rising, kept-rising, conserved, bounds-lengths, terms-fit, spans-follow}
 use Rattle.space.specs.declared.Shape.{Shape}
 use Rattle.view.specs.Call.{Call}
 use Rattle.refuse.specs.Accepted.{call-of}
-use Rattle.emit.specs.RowMark.{mark}
+use Rattle.row_terms.specs.RowMark.{mark}
 use Rattle.emit.specs.Terms.{varsOf, coeffsOf}
 use Rattle.tally.specs.Theorem.{CountsFit, Fits, counts-fit, fits-infeasible, fits-done}
 use Rattle.model_file.specs.Format.{Lists, Decoded, refusal, file, decode}
@@ -53,7 +53,8 @@ short-vars (each p h) (suc i) = short-vars h i
 module _ (index : List ℕ) (coeff : List Float) where
   abbrev entriesText : List Emit → List ℕ
   entriesText es =
-      rowTexts (length es) (map (λ (e : Emit). e .row) es) (map (λ (e : Emit). mark (e .rewritten)) es) (map (λ (e : Emit). e .rhs) es) (map (λ (e : Emit). e .from) es) (map (λ (e : Emit). e .upto) es)
+      rowTexts (length es) (map (λ (e : Emit). e .row) es) (map (λ (e : Emit). mark (e .rewritten)) es) (map (λ (e : Emit). e .rhs) es)
+      (map (λ (e : Emit). e .from) es) (map (λ (e : Emit). e .upto) es)
       index coeff
 
   abbrev entryText : Emit → List ℕ
@@ -61,7 +62,8 @@ module _ (index : List ℕ) (coeff : List Float) where
 
   entries-cons : (e : Emit) (es : List Emit) → length (entriesText (e ∷ es)) ≡ length (entryText e) + length (entriesText es)
   entries-cons e es =
-      rw (rows-cons index coeff (length es) (e .row) (map (λ (x : Emit). x .row) es) (mark (e .rewritten)) (map (λ (x : Emit). mark (x .rewritten)) es) (e .rhs) (map (λ (x : Emit). x .rhs) es) (e .from) (map (λ (x : Emit). x .from) es) (e .upto) (map (λ (x : Emit). x .upto) es))
+      rw (rows-cons index coeff (length es) (e .row) (map (λ (x : Emit). x .row) es) (mark (e .rewritten)) (map (λ (x : Emit). mark (x .rewritten)) es) (e .rhs)
+      (map (λ (x : Emit). x .rhs) es) (e .from) (map (λ (x : Emit). x .from) es) (e .upto) (map (λ (x : Emit). x .upto) es))
       (length-append (entryText e) (entriesText es))
 
   -- their terms stand from n to m
@@ -76,12 +78,15 @@ module _ (index : List ℕ) (coeff : List Float) where
       omega (arith, entries-cons e es, w, b, entries-length v c (λ i. h (suc i)))
 
 -- ---- an answer, by its sizes
-pub answer-text-length : (R : Reduced) → CountsBelow (countsOf (R .counts)) → length (R .lower) ≤ 1000 → Short (rowsOf (R .emitted)) → Short (varsOf (R .terms)) → Consecutive (length (R .terms)) 0 (R .emitted) → Short (R .kept)
+pub answer-text-length : (R : Reduced) → CountsBelow (countsOf (R .counts)) → length (R .lower) ≤ 1000 → Short (rowsOf (R .emitted)) → Short (varsOf (R .terms))
+    → Consecutive (length (R .terms)) 0 (R .emitted) → Short (R .kept)
     → length (reducedText R) ≤ 130 + length (R .lower) * 44 + (length (R .emitted) * 36 + length (R .terms) * 26) + length (R .kept) * 13
 unfolding reducedText
 answer-text-length R c v r t s k =
-    let l : length (entriesText (varsOf (R .terms)) (coeffsOf (R .terms)) (R .emitted)) ≤ length (R .emitted) * 36 + length (R .terms) * 26 = omega (arith, entries-length (varsOf (R .terms)) (coeffsOf (R .terms)) t s r) in
-    answer-length (kindOf (R .flag)) (countsOf (R .counts)) (length (R .lower)) (R .lower) (R .upper) (length (R .emitted)) _ _ _ _ _ (varsOf (R .terms)) (coeffsOf (R .terms)) (length (R .kept)) (R .kept) _ c v k l
+    let l : length (entriesText (varsOf (R .terms)) (coeffsOf (R .terms)) (R .emitted)) ≤ length (R .emitted) * 36 + length (R .terms) * 26 =
+    omega (arith, entries-length (varsOf (R .terms)) (coeffsOf (R .terms)) t s r) in
+    answer-length (kindOf (R .flag)) (countsOf (R .counts)) (length (R .lower)) (R .lower) (R .upper) (length (R .emitted)) _ _ _ _ _ (varsOf (R .terms))
+    (coeffsOf (R .terms)) (length (R .kept)) (R .kept) _ c v k l
 
 -- ---- a model of the file's sizes that the table passes
 record Sized (M : Model) : Type 0 where

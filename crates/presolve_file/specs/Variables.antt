@@ -15,12 +15,12 @@ use Rattle.definition.specs.Rewrites.{Form, leForm, geForm, noForm, Rewrite, ke
 use Rattle.definition.specs.Tighten.{Rewriting, setCoeff, reboundRow, rowAfter, rewriteStep, rewriteLoop}
 use Rattle.definition.specs.Emit.{insertTerm, sortTerms, Out, final}
 use Rattle.definition.specs.Presolve.{presolve}
-use Rattle.definition.specs.RowsKept.Statements.{All, noOne, each}
-use Rattle.definition.specs.RowsKept.Choices.{both}
-use Rattle.definition.specs.RowsKept.Kept.{Kept, Changed, folded, tightened}
-use Rattle.definition.specs.RowsKept.AllRows.{AllRows, set-all, snoc-all, read-size}
-use Rattle.definition.specs.RowsKept.Outs.{Goes, skipped, before, emptied, given, rewrites}
-use Rattle.definition.specs.RowsKept.Whole.{Read, unread, queues, drops, Emitted, of-done}
+use Rattle.rows_kept.specs.Statements.{All, noOne, each}
+use Rattle.definition.specs.Choices.{both}
+use Rattle.rows_kept.specs.Kept.{Kept, Changed, folded, tightened}
+use Rattle.rows_kept.specs.AllRows.{AllRows, set-all, snoc-all, read-size}
+use Rattle.rows_kept.specs.Outs.{Goes, skipped, before, emptied, given, rewrites}
+use Rattle.rows_kept.specs.Whole.{Read, unread, queues, drops, Emitted, of-done}
 
 -- ---- lists of which each has a property
 module _ {A : Type 0} {P : A → Type 0} where

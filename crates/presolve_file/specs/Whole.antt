@@ -10,7 +10,7 @@ use Rattle.definition.specs.Model.{Model, Emit, Reduced, Answer, infeasible, do
 use Rattle.definition.specs.Presolve.{presolve}
 use Rattle.definition.specs.Refusal as call
 use Rattle.refuse.specs.Of.{modelOf}
-use Rattle.emit.specs.RowMark.{mark}
+use Rattle.row_terms.specs.RowMark.{mark}
 use Rattle.emit.specs.Terms.{varsOf, coeffsOf}
 use Rattle.model_file.specs.Format.{Lists, Decoded, refusal, file, decode}
 use Rattle.model_file.specs.Longest.{first-bytes}

@@ -25,14 +25,14 @@ pub const TEXT_BYTES: usize = 32768;
 
 // Presolves a model and prints the answer. The space is enough for 128 variables, 128 rows and 512
 // terms (docs/WORKSPACE.md), and so for every file that is read (specs/Enough, `space-enough`).
-fn presolve_model(
+fn presolve_model<'a>(
     obj: &[f64],
     lower: &[f64],
     upper: &[f64],
     domain: &[u8],
     starts: &[usize],
-    index: &[usize],
-    coeff: &[f64],
+    index: &'a [usize],
+    coeff: &'a [f64],
     cmp: &[u8],
     rhs: &[f64],
     mode: u8,
@@ -40,7 +40,9 @@ fn presolve_model(
     int_tol: f64,
     text: &mut [u8],
 ) -> Printed
-    ensures { λ r. ⌜ outcome r (now (text .exit)) ≡ printed (modelText (modelOf (now (obj .entry)) (now (lower .entry)) (now (upper .entry)) (now (domain .entry)) (now (starts .entry)) (now (index .entry)) (now (coeff .entry)) (now (cmp .entry)) (now (rhs .entry)) mode feas «int_tol»)) (now (text .entry)) ⌝ }
+    ensures { λ r. ⌜ outcome r (now (text .exit))
+        ≡ printed (modelText (modelOf (now (obj .entry)) (now (lower .entry)) (now (upper .entry)) (now (domain .entry)) (now (starts .entry))
+        (now (index .entry)) (now (coeff .entry)) (now (cmp .entry)) (now (rhs .entry)) mode feas «int_tol»)) (now (text .entry)) ⌝ }
 {
     let mut out_lower = [0.0f64; 128];
     let mut out_upper = [0.0f64; 128];
@@ -94,6 +96,8 @@ fn presolve_model(
         &emit_from,
         &emit_upto,
         &kept,
+        index,
+        coeff,
         &term_index,
         &term_coeff,
         text,
@@ -101,21 +105,23 @@ fn presolve_model(
 }
 
 // A model that was read: it stands at the front of the slices.
-fn presolve_front(
+fn presolve_front<'a>(
     h: Header,
     obj: &[f64],
     lower: &[f64],
     upper: &[f64],
     domain: &[u8],
     starts: &[usize],
-    index: &[usize],
-    coeff: &[f64],
+    index: &'a [usize],
+    coeff: &'a [f64],
     cmp: &[u8],
     rhs: &[f64],
     text: &mut [u8],
 ) -> Printed
     requires { ⌜ Held h (slices (now obj) (now lower) (now upper) (now domain) (now starts) (now index) (now coeff) (now cmp) (now rhs)) ⌝ }
-    ensures { λ r. ⌜ outcome r (now (text .exit)) ≡ printed (modelText (frontModel h (slices (now (obj .entry)) (now (lower .entry)) (now (upper .entry)) (now (domain .entry)) (now (starts .entry)) (now (index .entry)) (now (coeff .entry)) (now (cmp .entry)) (now (rhs .entry))))) (now (text .entry)) ⌝ }
+    ensures { λ r. ⌜ outcome r (now (text .exit))
+        ≡ printed (modelText (frontModel h (slices (now (obj .entry)) (now (lower .entry)) (now (upper .entry)) (now (domain .entry)) (now (starts .entry))
+        (now (index .entry)) (now (coeff .entry)) (now (cmp .entry)) (now (rhs .entry))))) (now (text .entry)) ⌝ }
 {
     let vars = h.vars;
     let rows = h.rows;

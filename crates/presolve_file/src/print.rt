@@ -31,8 +31,8 @@ fn kind_of(flag: bool) -> Kind
     Kind::Unchanged
 }
 
-// The answer whose lists stand at the front of the result slices.
-fn print_reduced(
+// The answer whose lists stand at the front of the result slices; index and coeff are the model's terms.
+fn print_reduced<'a>(
     x: Reduced,
     lowers: usize,
     uppers: usize,
@@ -44,12 +44,16 @@ fn print_reduced(
     from: &[usize],
     upto: &[usize],
     kept: &[usize],
-    index: &[usize],
-    coeff: &[f64],
+    index: &'a [usize],
+    coeff: &'a [f64],
+    term_index: &'a [usize],
+    term_coeff: &'a [f64],
     text: &mut [u8],
 ) -> Printed
-    requires { ⌜ Fronts x lowers uppers (results (now lower) (now upper) (now row) (now rewritten) (now rhs) (now from) (now upto) (now kept) (now index) (now coeff)) ⌝ }
-    ensures { λ r. ⌜ outcome r (now (text .exit)) ≡ printed (frontsText x lowers uppers (results (now (lower .entry)) (now (upper .entry)) (now (row .entry)) (now (rewritten .entry)) (now (rhs .entry)) (now (from .entry)) (now (upto .entry)) (now (kept .entry)) (now (index .entry)) (now (coeff .entry)))) (now (text .entry)) ⌝ }
+    requires { ⌜ Fronts x lowers uppers (results (now lower) (now upper) (now row) (now rewritten) (now rhs) (now from) (now upto) (now kept) (now «term_index») (now «term_coeff»)) ⌝ }
+    ensures { λ r. ⌜ outcome r (now (text .exit))
+        ≡ printed (frontsText x lowers uppers (results (now (lower .entry)) (now (upper .entry)) (now (row .entry)) (now (rewritten .entry)) (now (rhs .entry))
+        (now (from .entry)) (now (upto .entry)) (now (kept .entry)) (now («term_index» .entry)) (now («term_coeff» .entry)))) (now (text .entry)) ⌝ }
 {
     let emitted = x.emitted;
     let terms = x.terms;
@@ -67,8 +71,10 @@ fn print_reduced(
         &rhs[..emitted],
         &from[..emitted],
         &upto[..emitted],
-        &index[..terms],
-        &coeff[..terms],
+        index,
+        coeff,
+        &term_index[..terms],
+        &term_coeff[..terms],
         validated,
         &kept[..validated],
         text,
@@ -76,7 +82,7 @@ fn print_reduced(
 }
 
 // Any answer of a call; lowers and uppers are how many bounds the model has.
-pub fn print_call(
+pub(crate) fn print_call<'a>(
     answer: Answer,
     lowers: usize,
     uppers: usize,
@@ -88,12 +94,17 @@ pub fn print_call(
     from: &[usize],
     upto: &[usize],
     kept: &[usize],
-    index: &[usize],
-    coeff: &[f64],
+    index: &'a [usize],
+    coeff: &'a [f64],
+    term_index: &'a [usize],
+    term_coeff: &'a [f64],
     text: &mut [u8],
 ) -> Printed
-    requires { ⌜ CallFronts answer lowers uppers (results (now lower) (now upper) (now row) (now rewritten) (now rhs) (now from) (now upto) (now kept) (now index) (now coeff)) ⌝ }
-    ensures { λ r. ⌜ outcome r (now (text .exit)) ≡ printed (callText answer lowers uppers (results (now (lower .entry)) (now (upper .entry)) (now (row .entry)) (now (rewritten .entry)) (now (rhs .entry)) (now (from .entry)) (now (upto .entry)) (now (kept .entry)) (now (index .entry)) (now (coeff .entry)))) (now (text .entry)) ⌝ }
+    requires { ⌜ CallFronts answer lowers uppers (results (now lower) (now upper) (now row) (now rewritten) (now rhs) (now from) (now upto) (now kept) (now «term_index») (now «term_coeff»)) ⌝ }
+    ensures { λ r. ⌜ outcome r (now (text .exit))
+        ≡ printed (callText answer lowers uppers (results (now (lower .entry)) (now (upper .entry)) (now (row .entry)) (now (rewritten .entry))
+        (now (rhs .entry)) (now (from .entry)) (now (upto .entry)) (now (kept .entry)) (now («term_index» .entry)) (now («term_coeff» .entry))))
+        (now (text .entry)) ⌝ }
 {
     match answer {
         Answer::Refused(n) => print_result::print_refusal(n, text),
@@ -111,6 +122,8 @@ pub fn print_call(
             upto,
             index,
             coeff,
+            term_index,
+            term_coeff,
             0,
             kept,
             text,
@@ -129,6 +142,8 @@ pub fn print_call(
             kept,
             index,
             coeff,
+            term_index,
+            term_coeff,
             text,
         ),
     }

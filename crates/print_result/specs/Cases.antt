@@ -4,7 +4,9 @@ use mathlib.Core.List.{[], _∷_}
 use lib.Ieee.{binary64, ofBits, toBits}
 use Rattle.floats.specs.Num.{choose}
 use Rattle.print_result.specs.declared.Kind.{Kind}
-use Rattle.print_result.specs.Text.{ascii, digit, tens, decimal, hexDigits, number, bits, answerLine, countsLine, boundLine, writtenLine, rewrittenLine, termLine, validateLine, refusedLine, each, fromTo, boundLines, validateLines, termLines, rowText, rowTexts, followed, answerText}
+use Rattle.print_result.specs.Text.{ascii, digit, tens, decimal, hexDigits, number, bits, answerLine, countsLine, boundLine}
+use Rattle.print_result.specs.Text.{writtenLine, rewrittenLine, termLine, validateLine, refusedLine, each, fromTo, boundLines}
+use Rattle.print_result.specs.Text.{validateLines, termLines, rowText, rowTexts, followed, answerText}
 
 pub case-1 :
     answerText Kind.Reduced (record { «rows_dropped» = 1; «bounds_tightened» = 1; «vars_fixed» = 0; «coeffs_tightened» = 0; passes = 2 })
@@ -16,7 +18,8 @@ case-1 = refl
 
 -- row 10 as written, and row 127 rewritten, with the second and third term of the list
 pub rows :
-    rowTexts 2 (10 ∷ 127 ∷ []) (0 ∷ 1 ∷ []) (ofBits binary64 0 ∷ ofBits binary64 0x4020_0000_0000_0000 ∷ []) (0 ∷ 1 ∷ []) (4 ∷ 3 ∷ []) (5 ∷ 0 ∷ 1 ∷ []) (ofBits binary64 0 ∷ ofBits binary64 0x3ff0_0000_0000_0000 ∷ ofBits binary64 0xbff0_0000_0000_0000 ∷ [])
+    rowTexts 2 (10 ∷ 127 ∷ []) (0 ∷ 1 ∷ []) (ofBits binary64 0 ∷ ofBits binary64 0x4020_0000_0000_0000 ∷ []) (0 ∷ 1 ∷ []) (4 ∷ 3 ∷ []) (5 ∷ 0 ∷ 1 ∷ [])
+    (ofBits binary64 0 ∷ ofBits binary64 0x3ff0_0000_0000_0000 ∷ ofBits binary64 0xbff0_0000_0000_0000 ∷ [])
     ≡ ascii "emit 10 written\nemit 127 rewritten 4020000000000000\nterm 0 3ff0000000000000\nterm 1 bff0000000000000\n"
 unfolding choose ascii digit tens decimal hexDigits number bits writtenLine rewrittenLine termLine each fromTo termLines rowText rowTexts ofBits toBits
 rows = refl

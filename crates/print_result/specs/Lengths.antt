@@ -11,7 +11,9 @@ use lib.Ieee.{Float}
 use Rattle.floats.specs.Num.{choose}
 use Rattle.print_result.specs.declared.Kind.{Kind}
 use Rattle.print_result.specs.declared.Counts.{Counts}
-use Rattle.print_result.specs.Text.{ascii, digit, decimal, hexDigits, number, bits, answerLine, countsLine, boundLine, writtenLine, rewrittenLine, termLine, validateLine, refusedLine, each, fromTo, boundAt, boundLines, validateAt, validateLines, termAt, termLines, rowText, rowAt, rowTexts, followed, answerText}
+use Rattle.print_result.specs.Text.{ascii, digit, decimal, hexDigits, number, bits, answerLine, countsLine, boundLine, writtenLine}
+use Rattle.print_result.specs.Text.{rewrittenLine, termLine, validateLine, refusedLine, each, fromTo, boundAt, boundLines, validateAt}
+use Rattle.print_result.specs.Text.{validateLines, termAt, termLines, rowText, rowAt, rowTexts, followed, answerText}
 use Rattle.print_result.specs.TextLaws.{decimal-one, decimal-more}
 
 -- ---- numbers: at most as many digits as the power of ten that they are below
@@ -143,7 +145,8 @@ module _ (index : List ℕ) (coeff : List Float) where
       ap (λ (j : ℕ). each f j 0) z ∙ ap (λ (l : List ℕ). f 0 ++ l) (each-shift f k 0)
 
 -- ---- the whole
-module _ (kind : Kind) (k : Counts) (vars : ℕ) (lower upper : List Float) (emitted : ℕ) (row : List ℕ) (rewritten : List ℕ) (rhs : List Float) (from upto index : List ℕ) (coeff : List Float) (validated : ℕ) (kept : List ℕ) where
+module _ (kind : Kind) (k : Counts) (vars : ℕ) (lower upper : List Float) (emitted : ℕ) (row : List ℕ) (rewritten : List ℕ) (rhs : List Float)
+    (from upto index : List ℕ) (coeff : List Float) (validated : ℕ) (kept : List ℕ) where
   after-counts : (n : ℕ) → vars ≤ 1000 → Short kept → length (rowTexts emitted row rewritten rhs from upto index coeff) ≤ n → (b : Bool)
       → length (choose b (boundLines vars lower upper ++ (rowTexts emitted row rewritten rhs from upto index coeff ++ validateLines validated kept)) []) ≤ vars * 44 + n + validated * 13
   unfolding choose

@@ -1,4 +1,5 @@
--- What printing a text into a lent buffer gives: how many bytes, with the text at the buffer's front and the rest as it was; or, where the buffer is too short, that there is no room, and the buffer as it was.
+-- What printing a text into a lent buffer gives: how many bytes, with the text at the buffer's front and the rest as it was; or, where the buffer is too short,
+-- that there is no room, and the buffer as it was.
 use Prim.Native.Nat.{ℕ, _+_, _≤_, _<_, min}
 use mathlib.Core.Path.{_≡_, ap, _∙_}
 use mathlib.Core.List.{List, _++_}

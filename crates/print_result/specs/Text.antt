@@ -72,6 +72,16 @@ validateLine r = ascii "validate" ++ (number r ++ newline)
 unfoldable pub refusedLine : ℕ → List ℕ
 refusedLine n = ascii "refused" ++ (number n ++ newline)
 
+-- whether a model is 01's farm model: the number of the condition that fails and its place, 0 where none does
+unfoldable pub wholeLine : List ℕ
+wholeLine = ascii "numbers whole\n"
+
+unfoldable pub offLine : ℕ → ℕ → List ℕ
+offLine k i = ascii "numbers" ++ (number k ++ (number i ++ newline))
+
+unfoldable pub numbersLine : ℕ → ℕ → List ℕ
+numbersLine k i = choose (eqb k 0) wholeLine (offLine k i)
+
 -- ---- lines of a kind
 -- the smaller of two lengths
 pub record Least (a b r : ℕ) : Type 0 where
@@ -116,7 +126,8 @@ abbrev pub rowAt : List ℕ → List ℕ → List Float → List ℕ → List �
 rowAt row rewritten rhs from upto index coeff i = rowText (getD row i 0) (getD rewritten i 0) (getD rhs i nan) (getD from i 0) (getD upto i 0) index coeff
 
 unfoldable pub rowTexts : ℕ → List ℕ → List ℕ → List Float → List ℕ → List ℕ → List ℕ → List Float → List ℕ
-rowTexts n row rewritten rhs from upto index coeff = fromTo (rowAt row rewritten rhs from upto index coeff) 0 (min n (min (min (length row) (min (length rewritten) (length rhs))) (min (length from) (length upto))))
+rowTexts n row rewritten rhs from upto index coeff = fromTo (rowAt row rewritten rhs from upto index coeff) 0
+    (min n (min (min (length row) (min (length rewritten) (length rhs))) (min (length from) (length upto))))
 
 -- ---- the whole. After an infeasible answer only the counts follow
 unfoldable pub followed : Kind → Bool

@@ -5,7 +5,7 @@ mod put;
 mod rows;
 
 ghost use mathlib.Core.Path.{_≡_};
-ghost use Rattle.print_result.specs.Text.{answerLine, answerText, refusedLine};
+ghost use Rattle.print_result.specs.Text.{answerLine, answerText, refusedLine, numbersLine};
 ghost use Rattle.print_result.specs.Text.{followed as Text·followed};
 ghost use Rattle.print_result.specs.Page.{page, Poured};
 ghost use Rattle.print_result.specs.Printing.{printed, outcome};
@@ -54,7 +54,7 @@ fn followed(kind: Kind) -> bool
 }
 
 // The whole text from a place on.
-fn put_all(
+fn put_all<'a>(
     kind: Kind,
     counts: Counts,
     vars: usize,
@@ -66,15 +66,19 @@ fn put_all(
     rhs: &[f64],
     from: &[usize],
     upto: &[usize],
-    index: &[usize],
-    coeff: &[f64],
+    index: &'a [usize],
+    coeff: &'a [f64],
+    term_index: &'a [usize],
+    term_coeff: &'a [f64],
     validated: usize,
     kept: &[usize],
     out: &mut [u8],
     at: usize,
     cap: usize,
 ) -> usize
-    ensures { λ r. ⌜ Poured cap (answerText kind counts vars (now (lower .entry)) (now (upper .entry)) emitted (now (row .entry)) (now (rewritten .entry)) (now (rhs .entry)) (now (from .entry)) (now (upto .entry)) (now (index .entry)) (now (coeff .entry)) validated (now (kept .entry))) (page (now (out .entry)) at) (page (now (out .exit)) r) ⌝ }
+    ensures { λ r. ⌜ Poured cap (answerText kind counts vars (now (lower .entry)) (now (upper .entry)) emitted (now (row .entry)) (now (rewritten .entry))
+        (now (rhs .entry)) (now (from .entry)) (now (upto .entry)) (now («term_index» .entry)) (now («term_coeff» .entry)) validated (now (kept .entry)))
+        (page (now (out .entry)) at) (page (now (out .exit)) r) ⌝ }
 {
     let a = put_answer(out, at, cap, kind);
     let b = lines::put_counts(out, a, cap, counts);
@@ -94,14 +98,17 @@ fn put_all(
         upto,
         index,
         coeff,
+        term_index,
+        term_coeff,
     );
     lines::put_kept(out, d, cap, validated, kept)
 }
 
 // Prints an answer: the first vars bounds, the first emitted rows and the first validated kept
 // rows. A row whose mark is 0 is written, any other rewritten: then the terms of its span follow.
-// The first run only counts.
-pub fn print_answer(
+// index and coeff are the model's terms, term_index and term_coeff those of the rewritten rows. The
+// first run only counts.
+pub fn print_answer<'a>(
     kind: Kind,
     counts: Counts,
     vars: usize,
@@ -113,13 +120,17 @@ pub fn print_answer(
     rhs: &[f64],
     from: &[usize],
     upto: &[usize],
-    index: &[usize],
-    coeff: &[f64],
+    index: &'a [usize],
+    coeff: &'a [f64],
+    term_index: &'a [usize],
+    term_coeff: &'a [f64],
     validated: usize,
     kept: &[usize],
     out: &mut [u8],
 ) -> Printed
-    ensures { λ r. ⌜ outcome r (now (out .exit)) ≡ printed (answerText kind counts vars (now (lower .entry)) (now (upper .entry)) emitted (now (row .entry)) (now (rewritten .entry)) (now (rhs .entry)) (now (from .entry)) (now (upto .entry)) (now (index .entry)) (now (coeff .entry)) validated (now (kept .entry))) (now (out .entry)) ⌝ }
+    ensures { λ r. ⌜ outcome r (now (out .exit)) ≡ printed (answerText kind counts vars (now (lower .entry)) (now (upper .entry)) emitted (now (row .entry))
+        (now (rewritten .entry)) (now (rhs .entry)) (now (from .entry)) (now (upto .entry)) (now («term_index» .entry)) (now («term_coeff» .entry)) validated
+        (now (kept .entry))) (now (out .entry)) ⌝ }
 {
     let cap = out.len() + 1;
     let mut scratch = [0u8; 1];
@@ -137,6 +148,8 @@ pub fn print_answer(
         upto,
         index,
         coeff,
+        term_index,
+        term_coeff,
         validated,
         kept,
         &mut scratch,
@@ -160,6 +173,8 @@ pub fn print_answer(
         upto,
         index,
         coeff,
+        term_index,
+        term_coeff,
         validated,
         kept,
         out,
@@ -180,5 +195,20 @@ pub fn print_refusal(n: u8, out: &mut [u8]) -> Printed
         return Printed::NoRoom;
     }
     let m = lines::put_refused(out, 0, cap, n as usize);
+    Printed::Bytes(m)
+}
+
+// Prints whether a model is 01's farm model: k is the number of the condition that fails and i its place;
+// k is 0 where none does.
+pub fn print_numbers(k: usize, i: usize, out: &mut [u8]) -> Printed
+    ensures { λ r. ⌜ outcome r (now (out .exit)) ≡ printed (numbersLine k i) (now (out .entry)) ⌝ }
+{
+    let cap = out.len() + 1;
+    let mut scratch = [0u8; 1];
+    let n = lines::put_numbers(&mut scratch, 0, cap, k, i);
+    if out.len() < n {
+        return Printed::NoRoom;
+    }
+    let m = lines::put_numbers(out, 0, cap, k, i);
     Printed::Bytes(m)
 }

@@ -1,10 +1,10 @@
 // The lines of the text but those of the rows.
 use crate::Counts;
 use crate::put;
-ghost use Rattle.print_result.specs.Text.{Least, countsLine, boundLine, boundLines, validateLine, validateLines, refusedLine};
+ghost use Rattle.print_result.specs.Text.{Least, countsLine, boundLine, boundLines, validateLine, validateLines, refusedLine, offLine, numbersLine};
 ghost use Rattle.print_result.specs.Page.{page, Poured};
 
-pub fn least(a: usize, b: usize) -> usize
+pub(crate) fn least(a: usize, b: usize) -> usize
     ensures { λ r. ⌜ Least a b r ⌝ }
 {
     if a < b {
@@ -13,7 +13,7 @@ pub fn least(a: usize, b: usize) -> usize
     b
 }
 
-pub fn put_counts(out: &mut [u8], at: usize, cap: usize, k: Counts) -> usize
+pub(crate) fn put_counts(out: &mut [u8], at: usize, cap: usize, k: Counts) -> usize
     ensures { λ r. ⌜ Poured cap (countsLine k) (page (now (out .entry)) at) (page (now (out .exit)) r) ⌝ }
 {
     let a = put::put_text(out, at, cap, b"counts");
@@ -35,7 +35,7 @@ fn put_bound(out: &mut [u8], at: usize, cap: usize, v: usize, lower: f64, upper:
     put::put_byte(out, d, cap, 10)
 }
 
-pub fn put_bounds(
+pub(crate) fn put_bounds(
     out: &mut [u8],
     from: usize,
     cap: usize,
@@ -63,7 +63,13 @@ fn put_validate(out: &mut [u8], at: usize, cap: usize, r: usize) -> usize
     put::put_byte(out, b, cap, 10)
 }
 
-pub fn put_kept(out: &mut [u8], from: usize, cap: usize, used: usize, kept: &[usize]) -> usize
+pub(crate) fn put_kept(
+    out: &mut [u8],
+    from: usize,
+    cap: usize,
+    used: usize,
+    kept: &[usize],
+) -> usize
     ensures { λ r. ⌜ Poured cap (validateLines used (now (kept .entry))) (page (now (out .entry)) from) (page (now (out .exit)) r) ⌝ }
 {
     let n = least(used, kept.len());
@@ -76,10 +82,28 @@ pub fn put_kept(out: &mut [u8], from: usize, cap: usize, used: usize, kept: &[us
     at
 }
 
-pub fn put_refused(out: &mut [u8], at: usize, cap: usize, n: usize) -> usize
+pub(crate) fn put_refused(out: &mut [u8], at: usize, cap: usize, n: usize) -> usize
     ensures { λ r. ⌜ Poured cap (refusedLine n) (page (now (out .entry)) at) (page (now (out .exit)) r) ⌝ }
 {
     let a = put::put_text(out, at, cap, b"refused");
     let b = put::put_number(out, a, cap, n);
     put::put_byte(out, b, cap, 10)
+}
+
+fn put_off(out: &mut [u8], at: usize, cap: usize, k: usize, i: usize) -> usize
+    ensures { λ r. ⌜ Poured cap (offLine k i) (page (now (out .entry)) at) (page (now (out .exit)) r) ⌝ }
+{
+    let a = put::put_text(out, at, cap, b"numbers");
+    let b = put::put_number(out, a, cap, k);
+    let c = put::put_number(out, b, cap, i);
+    put::put_byte(out, c, cap, 10)
+}
+
+pub(crate) fn put_numbers(out: &mut [u8], at: usize, cap: usize, k: usize, i: usize) -> usize
+    ensures { λ r. ⌜ Poured cap (numbersLine k i) (page (now (out .entry)) at) (page (now (out .exit)) r) ⌝ }
+{
+    if k == 0 {
+        return put::put_text(out, at, cap, b"numbers whole\n");
+    }
+    put_off(out, at, cap, k, i)
 }

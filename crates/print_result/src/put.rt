@@ -7,7 +7,7 @@ ghost use lib.Ieee.{binary64, toBits};
 ghost use Rattle.print_result.specs.Text.{decimal, hexDigits, digit, number, bits};
 ghost use Rattle.print_result.specs.Page.{page, Poured};
 
-pub fn put_byte(out: &mut [u8], at: usize, cap: usize, b: u8) -> usize
+pub(crate) fn put_byte(out: &mut [u8], at: usize, cap: usize, b: u8) -> usize
     ensures { λ r. ⌜ Poured cap (b ∷ []) (page (now (out .entry)) at) (page (now (out .exit)) r) ⌝ }
 {
     if at < cap {
@@ -20,7 +20,7 @@ pub fn put_byte(out: &mut [u8], at: usize, cap: usize, b: u8) -> usize
     cap
 }
 
-pub fn put_text(out: &mut [u8], from: usize, cap: usize, text: &[u8]) -> usize
+pub(crate) fn put_text(out: &mut [u8], from: usize, cap: usize, text: &[u8]) -> usize
     ensures { λ r. ⌜ Poured cap (now (text .entry)) (page (now (out .entry)) from) (page (now (out .exit)) r) ⌝ }
 {
     let mut at = from;
@@ -75,7 +75,7 @@ fn pattern(x: f64) -> u64
 }
 
 // A space and a number.
-pub fn put_number(out: &mut [u8], from: usize, cap: usize, n: usize) -> usize
+pub(crate) fn put_number(out: &mut [u8], from: usize, cap: usize, n: usize) -> usize
     ensures { λ r. ⌜ Poured cap (number n) (page (now (out .entry)) from) (page (now (out .exit)) r) ⌝ }
 {
     let at = put_byte(out, from, cap, 32);
@@ -83,7 +83,7 @@ pub fn put_number(out: &mut [u8], from: usize, cap: usize, n: usize) -> usize
 }
 
 // A space and a float's pattern.
-pub fn put_float(out: &mut [u8], from: usize, cap: usize, x: f64) -> usize
+pub(crate) fn put_float(out: &mut [u8], from: usize, cap: usize, x: f64) -> usize
     ensures { λ r. ⌜ Poured cap (bits x) (page (now (out .entry)) from) (page (now (out .exit)) r) ⌝ }
 {
     let at = put_byte(out, from, cap, 32);

@@ -1,6 +1,7 @@
 // The lines of the rows that are emitted.
 use crate::lines;
 use crate::put;
+ghost use lib.ListN.{length};
 ghost use Rattle.print_result.specs.Text.{writtenLine, rewrittenLine, termLine, termLines, rowText, rowTexts};
 ghost use Rattle.print_result.specs.Page.{page, Poured};
 
@@ -31,30 +32,22 @@ fn put_term(out: &mut [u8], at: usize, cap: usize, v: usize, coeff: f64) -> usiz
     put::put_byte(out, c, cap, 10)
 }
 
-// The terms of a span, as far as both lists have them.
-fn put_terms(
-    out: &mut [u8],
-    start: usize,
-    cap: usize,
-    from: usize,
-    upto: usize,
-    index: &[usize],
-    coeff: &[f64],
-) -> usize
-    ensures { λ z. ⌜ Poured cap (termLines from upto (now (index .entry)) (now (coeff .entry))) (page (now (out .entry)) start) (page (now (out .exit)) z) ⌝ }
+// All terms of a row, as far as both parts have them.
+fn put_terms(out: &mut [u8], start: usize, cap: usize, vars: &[usize], coeffs: &[f64]) -> usize
+    ensures { λ z. ⌜ Poured cap (termLines 0 (length (now (vars .entry))) (now (vars .entry)) (now (coeffs .entry))) (page (now (out .entry)) start) (page (now (out .exit)) z) ⌝ }
 {
-    let e = lines::least(upto, lines::least(index.len(), coeff.len()));
+    let e = lines::least(vars.len(), coeffs.len());
     let mut at = start;
-    let mut i = from;
+    let mut i = 0;
     while i < e {
-        at = put_term(out, at, cap, index[i], coeff[i]);
+        at = put_term(out, at, cap, vars[i], coeffs[i]);
         i += 1;
     }
     at
 }
 
-// A row by its mark: 0 is written, any other number rewritten.
-fn put_row(
+// A row by its mark: 0 is written, any other number rewritten. Only a rewritten row's terms are read.
+fn put_row<'a>(
     out: &mut [u8],
     at: usize,
     cap: usize,
@@ -63,19 +56,23 @@ fn put_row(
     rhs: f64,
     from: usize,
     upto: usize,
-    index: &[usize],
-    coeff: &[f64],
+    index: &'a [usize],
+    coeff: &'a [f64],
+    term_index: &'a [usize],
+    term_coeff: &'a [f64],
 ) -> usize
-    ensures { λ z. ⌜ Poured cap (rowText r mark rhs from upto (now (index .entry)) (now (coeff .entry))) (page (now (out .entry)) at) (page (now (out .exit)) z) ⌝ }
+    ensures { λ z. ⌜ Poured cap (rowText r mark rhs from upto (now («term_index» .entry)) (now («term_coeff» .entry))) (page (now (out .entry)) at) (page (now (out .exit)) z) ⌝ }
 {
     if mark != 0 {
         let a = put_rewritten(out, at, cap, r, rhs);
-        return put_terms(out, a, cap, from, upto, index, coeff);
+        let vars = row_terms::row_vars(index, term_index, mark, from, upto);
+        let coeffs = row_terms::row_coeffs(coeff, term_coeff, mark, from, upto);
+        return put_terms(out, a, cap, vars, coeffs);
     }
     put_written(out, at, cap, r)
 }
 
-pub fn put_rows(
+pub(crate) fn put_rows<'a>(
     out: &mut [u8],
     start: usize,
     cap: usize,
@@ -85,10 +82,13 @@ pub fn put_rows(
     rhs: &[f64],
     from: &[usize],
     upto: &[usize],
-    index: &[usize],
-    coeff: &[f64],
+    index: &'a [usize],
+    coeff: &'a [f64],
+    term_index: &'a [usize],
+    term_coeff: &'a [f64],
 ) -> usize
-    ensures { λ z. ⌜ Poured cap (rowTexts emitted (now (row .entry)) (now (rewritten .entry)) (now (rhs .entry)) (now (from .entry)) (now (upto .entry)) (now (index .entry)) (now (coeff .entry))) (page (now (out .entry)) start) (page (now (out .exit)) z) ⌝ }
+    ensures { λ z. ⌜ Poured cap (rowTexts emitted (now (row .entry)) (now (rewritten .entry)) (now (rhs .entry)) (now (from .entry)) (now (upto .entry))
+        (now («term_index» .entry)) (now («term_coeff» .entry))) (page (now (out .entry)) start) (page (now (out .exit)) z) ⌝ }
 {
     let spans = lines::least(from.len(), upto.len());
     let facts = lines::least(row.len(), lines::least(rewritten.len(), rhs.len()));
@@ -107,6 +107,8 @@ pub fn put_rows(
             upto[i],
             index,
             coeff,
+            term_index,
+            term_coeff,
         );
         i += 1;
     }

@@ -4,10 +4,6 @@ use Rattle.presolve.specs.Steps.{promise-refused, passes}
 use borrow.Author.Needs.{needs}
 use Rattle.presolve.proofs.presolve.Statement.{statement}
 use Rattle.presolve.proofs.presolve.Tie as tie
-use Rattle.presolve.proofs.presolve.Reads as reads
-use Rattle.presolve.proofs.presolve.Lts as lts
-use Rattle.presolve.proofs.accepted.accepted.Reads as accepted-reads
-use Rattle.refuse.proofs.refused.Reads as refused-reads
 
 -- src/lib.rt:70:11
 refused-requires : tie.Need-refused-requires
@@ -23,7 +19,9 @@ enum-told c = search needs
 
 -- src/lib.rt:86:30
 accepted-requires : tie.Need-accepted-requires
-accepted-requires c κs = passes (c .before .before .before .before .before .before .before .before .before .before .before .before .before .before .before .refused .ensures) (c .before .before .before .before .before .before .before .before .before .before .before .before .before .enum-told .given .1)
+accepted-requires c κs =
+    passes (c .before .before .before .before .before .before .before .before .before .before .before .before .before .before .before .refused .ensures)
+    (c .before .before .before .before .before .before .before .before .before .before .before .before .before .enum-told .given .1)
 
 -- src/lib.rt:26:1
 returns : tie.Need-returns
@@ -31,23 +29,28 @@ returns c = promise-refused _ (c .before .before .before .refused .ensures) (c .
 
 -- src/lib.rt:26:1
 same-length : tie.Need-same-length
-same-length c = c .before .before .before .before .before .before .before .before .before .before .before .before .before .before .before .before .before .before .before .before .before .before .before .before .before .out-lower .given
+same-length c = c .before .before .before .before .before .before .before .before .before .before .before .before .before .before .before .before .before
+    .before .before .before .before .before .before .before .before .out-lower .given
 
 -- src/lib.rt:26:1
 same-length-2 : tie.Need-same-length-2
-same-length-2 c = c .before .before .before .before .before .before .before .before .before .before .before .before .before .before .before .before .before .before .before .before .before .before .before .out-upper .given
+same-length-2 c = c .before .before .before .before .before .before .before .before .before .before .before .before .before .before .before .before .before
+    .before .before .before .before .before .before .out-upper .given
 
 -- src/lib.rt:26:1
 same-length-3 : tie.Need-same-length-3
-same-length-3 c = c .before .before .before .before .before .before .before .before .before .before .before .before .before .before .before .before .before .before .before .before .before .emit-row .given
+same-length-3 c = c .before .before .before .before .before .before .before .before .before .before .before .before .before .before .before .before .before
+    .before .before .before .before .emit-row .given
 
 -- src/lib.rt:26:1
 same-length-4 : tie.Need-same-length-4
-same-length-4 c = c .before .before .before .before .before .before .before .before .before .before .before .before .before .before .before .before .before .before .before .emit-rewritten .given
+same-length-4 c = c .before .before .before .before .before .before .before .before .before .before .before .before .before .before .before .before .before
+    .before .before .emit-rewritten .given
 
 -- src/lib.rt:26:1
 same-length-5 : tie.Need-same-length-5
-same-length-5 c = c .before .before .before .before .before .before .before .before .before .before .before .before .before .before .before .before .before .emit-rhs .given
+same-length-5 c = c .before .before .before .before .before .before .before .before .before .before .before .before .before .before .before .before .before
+    .emit-rhs .given
 
 -- src/lib.rt:26:1
 same-length-6 : tie.Need-same-length-6
@@ -83,28 +86,9 @@ same-length-13 c = c .before .adjacency .given
 
 -- src/lib.rt:26:1
 returns-2 : tie.Need-returns-2
-returns-2 c = c .before .before .before .before .before .before .before .before .before .before .before .before .before .before .before .before .before .before .before .before .before .before .before .before .before .before .accepted .ensures
+returns-2 c = c .before .before .before .before .before .before .before .before .before .before .before .before .before .before .before .before .before .before
+    .before .before .before .before .before .before .before .before .accepted .ensures
 
 pub presolve-spec : {M : Type 1} → statement M
-presolve-spec =
-    tie.close
-    (tie.spec
-    refused-requires
-    enum-known-k
-    enum-told
-    accepted-requires
-    returns
-    same-length
-    same-length-2
-    same-length-3
-    same-length-4
-    same-length-5
-    same-length-6
-    same-length-7
-    same-length-8
-    same-length-9
-    same-length-10
-    same-length-11
-    same-length-12
-    same-length-13
-    returns-2)
+presolve-spec = tie.close (tie.spec refused-requires enum-known-k enum-told accepted-requires returns same-length same-length-2 same-length-3 same-length-4
+    same-length-5 same-length-6 same-length-7 same-length-8 same-length-9 same-length-10 same-length-11 same-length-12 same-length-13 returns-2)

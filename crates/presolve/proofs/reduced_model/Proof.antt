@@ -5,8 +5,6 @@ use Rattle.view.specs.Lists.{yes, no}
 use borrow.Author.Needs.{needs}
 use Rattle.presolve.proofs.reduced_model.Statement.{statement}
 use Rattle.presolve.proofs.reduced_model.Tie as tie
-use Rattle.presolve.proofs.reduced_model.Reads as reads
-use Rattle.presolve.proofs.reduced_model.Lts as lts
 
 -- src/lib.rt:129:25
 enum-known-answer : tie.Need-enum-known-answer
@@ -41,13 +39,4 @@ unfolding second
 returns-4 c = simp (c .before .before .answer2 .given .1) (sym (no _ _ (c .if1 .left)))
 
 pub reduced-model-spec : {M : Type 1} → statement M
-reduced-model-spec =
-    tie.close
-    (tie.spec
-    enum-known-answer
-    enum-told
-    enum-known-answer-2
-    returns
-    returns-2
-    returns-3
-    returns-4)
+reduced-model-spec = tie.close (tie.spec enum-known-answer enum-told enum-known-answer-2 returns returns-2 returns-3 returns-4)

@@ -7,47 +7,16 @@ use borrow.Author.Needs.{needs}
 use Rattle.print_result.proofs.put_all.Statement.{statement}
 use Rattle.print_result.proofs.put_all.Tie as tie
 
-put-answer-requires : tie.Need-put-answer-requires
-put-answer-requires c κs = search needs
-
-put-counts-requires : tie.Need-put-counts-requires
-put-counts-requires c κs = search needs
-
-followed-requires : tie.Need-followed-requires
-followed-requires c κs = search needs
-
-same-length : tie.Need-same-length
-same-length c = search needs
-
-returns : tie.Need-returns
-returns c = recast (c .before .before .before .before .before .before .before .before .put-answer .ensures ⨟ c .before .before .before .before .put-counts .ensures) (only-counts _ _ _ _ _ _ _ _ _ _ _ _ _ _ _ (sym (c .before .followed .ensures) ∙ not-true _ (c .if1 .taken)))
-
-put-bounds-requires : tie.Need-put-bounds-requires
-put-bounds-requires c κs = search needs
-
-put-rows-requires : tie.Need-put-rows-requires
-put-rows-requires c κs = search needs
-
-put-kept-requires : tie.Need-put-kept-requires
-put-kept-requires c κs = search needs
-
-same-length-2 : tie.Need-same-length-2
-same-length-2 c = search needs
-
-returns-2 : tie.Need-returns-2
-returns-2 c = recast (c .before .before .before .before .before .before .before .before .before .before .before .before .before .before .before .before .before .before .before .before .put-answer .ensures ⨟ (c .before .before .before .before .before .before .before .before .before .before .before .before .before .before .before .before .put-counts .ensures ⨟ (c .before .before .before .before .before .before .before .before .before .before .put-bounds .ensures ⨟ (c .before .before .before .before .before .before .put-rows .ensures ⨟ c .before .before .put-kept .ensures)))) (all-lines _ _ _ _ _ _ _ _ _ _ _ _ _ _ _ (sym (c .before .before .before .before .before .before .before .before .before .before .before .before .before .followed .ensures) ∙ not-false _ (c .before .before .before .before .before .before .before .before .before .before .before .before .if1 .left)))
-
 pub put-all-spec : {M : Type 1} → statement M
-put-all-spec =
-    tie.close
-    (tie.spec
-    put-answer-requires
-    put-counts-requires
-    followed-requires
-    same-length
-    returns
-    put-bounds-requires
-    put-rows-requires
-    put-kept-requires
-    same-length-2
-    returns-2)
+put-all-spec = tie.close (tie.spec (search needs) (search needs) (search needs) (search needs)
+    (λ c. recast (c .before .before .before .before .before .before .before .before .put-answer .ensures ⨟
+    c .before .before .before .before .put-counts .ensures)
+    (only-counts _ _ _ _ _ _ _ _ _ _ _ _ _ _ _ (sym (c .before .followed .ensures) ∙ not-true _ (c .if1 .taken)))) (search needs) (search needs) (search needs)
+    (search needs) (λ c. let after-put-rows = c .before .before .before .before .before .before in
+    let after-put-bounds = after-put-rows .before .before .before .before in let else1 = after-put-bounds .before .before in
+    let after-followed = else1 .before in let after-put-counts = after-followed .before .before .before in
+    let after-put-answer = after-put-counts .before .before .before .before in
+    recast (after-put-answer .put-answer .ensures ⨟
+    (after-put-counts .put-counts .ensures ⨟
+    (after-put-bounds .put-bounds .ensures ⨟ (after-put-rows .put-rows .ensures ⨟ c .before .before .put-kept .ensures))))
+    (all-lines _ _ _ _ _ _ _ _ _ _ _ _ _ _ _ (sym (after-followed .followed .ensures) ∙ not-false _ (else1 .if1 .left)))))

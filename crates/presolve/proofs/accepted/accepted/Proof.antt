@@ -1,16 +1,11 @@
 -- An accepted call: what its steps promise is the promise.
 use mathlib.Core.Path.{refl, _∙_}
-use Rattle.presolve.specs.Steps.{accept, reduce-given, holds-floats, holds-numbers, holds-adjacency, has-room, ready-results, promise-stopped, promise-done, same-space, still-holds}
+use Rattle.presolve.specs.Steps.{accept, reduce-given, holds-floats, holds-numbers, holds-adjacency, has-room}
+use Rattle.presolve.specs.Steps.{ready-results, promise-stopped, promise-done, same-space, still-holds}
 use Rattle.reduce.specs.Reducing.{reduces-is}
 use borrow.Author.Needs.{needs}
 use Rattle.presolve.proofs.accepted.accepted.Statement.{statement}
 use Rattle.presolve.proofs.accepted.accepted.Tie as tie
-use Rattle.presolve.proofs.accepted.accepted.Reads as reads
-use Rattle.presolve.proofs.accepted.accepted.Lts as lts
-use Rattle.formulas.proofs.is_mip.Reads as is-mip-reads
-use Rattle.presolve.proofs.ending.finished.Reads as finished-reads
-use Rattle.presolve.proofs.ending.stopped.Reads as stopped-reads
-use Rattle.reduce.proofs.reduce.Reads as reduce-reads
 
 -- src/accepted.rt:47:9
 is-mip-requires : tie.Need-is-mip-requires
@@ -18,7 +13,10 @@ is-mip-requires c κs = search needs
 
 -- src/accepted.rt:55:11
 reduce-requires : tie.Need-reduce-requires
-reduce-requires c κs = let a = accept (c .before .before .before .before .before .before .before .before .before .before .before .before .before .before .before .before .before .before .before .before .before .before .before .before .before .before .pre) refl refl refl refl (c .before .before .before .is-mip .ensures) refl in ((holds-floats a, holds-numbers a, holds-adjacency a), reduce-given a)
+reduce-requires c κs = let a = accept
+    (c .before .before .before .before .before .before .before .before .before .before .before .before .before .before .before .before .before .before .before
+    .before .before .before .before .before .before .before .pre) refl refl refl refl (c .before .before .before .is-mip .ensures) refl in
+    ((holds-floats a, holds-numbers a, holds-adjacency a), reduce-given a)
 
 -- src/accepted.rt:72:31
 enum-told : tie.Need-enum-told
@@ -26,7 +24,12 @@ enum-told c = search needs
 
 -- src/accepted.rt:72:23
 stopped-requires : tie.Need-stopped-requires
-stopped-requires c κs = let a = accept (c .before .before .before .before .before .before .before .before .before .before .before .before .before .before .before .before .before .before .before .before .before .before .before .before .before .before .before .before .before .before .before .before .before .before .before .before .before .before .pre) refl refl refl refl (c .before .before .before .before .before .before .before .before .before .before .before .before .before .before .before .is-mip .ensures) refl in still-holds (c .before .before .before .before .before .before .numbers .given) (holds-numbers a)
+stopped-requires c κs = let a = accept
+    (c .before .before .before .before .before .before .before .before .before .before .before .before .before .before .before .before .before .before .before
+    .before .before .before .before .before .before .before .before .before .before .before .before .before .before .before .before .before .before .before
+    .pre) refl refl refl refl
+    (c .before .before .before .before .before .before .before .before .before .before .before .before .before .before .before .is-mip .ensures) refl in
+    still-holds (c .before .before .before .before .before .before .numbers .given) (holds-numbers a)
 
 -- src/accepted.rt:82:13
 enum-told-2 : tie.Need-enum-told-2
@@ -34,7 +37,26 @@ enum-told-2 c = search needs
 
 -- src/accepted.rt:73:23
 finished-requires : tie.Need-finished-requires
-finished-requires c κs = let a = accept (c .before .before .before .before .before .before .before .before .before .before .before .before .before .before .before .before .before .before .before .before .before .before .before .before .before .before .before .before .before .before .before .before .before .before .before .before .before .before .before .before .before .before .before .before .before .before .before .before .pre) refl refl refl refl (c .before .before .before .before .before .before .before .before .before .before .before .before .before .before .before .before .before .before .before .before .before .before .before .before .before .is-mip .ensures) refl in ((still-holds (c .before .before .before .before .before .before .before .before .before .before .before .before .before .before .before .before .before .before .floats .given) (holds-floats a), still-holds (c .before .before .before .before .before .before .before .before .before .before .before .before .before .before .before .before .numbers .given) (holds-numbers a)), (has-room a, ready-results a (reduces-is (c .before .before .before .before .before .before .before .before .before .before .before .before .before .before .before .before .before .before .before .before .before .reduce .ensures) (c .before .before .before .before .before .before .before .before .before .before .before .before .before .enum-told2 .given .1))))
+finished-requires c κs =
+    let a = accept (c .before .before .before .before .before .before .before .before .before .before .before .before .before .before .before .before .before
+    .before .before .before .before .before .before .before .before .before .before .before .before .before .before .before .before .before .before .before
+    .before .before .before .before .before .before .before .before .before .before .before .before .pre) refl refl refl refl
+    (c .before .before .before .before .before .before .before .before .before .before .before .before .before .before .before .before .before .before .before
+    .before .before .before .before .before .before .is-mip .ensures) refl in (
+      (
+        still-holds (c .before .before .before .before .before .before .before .before .before .before .before .before .before .before .before .before .before
+            .before .floats .given) (holds-floats a),
+        still-holds (c .before .before .before .before .before .before .before .before .before .before .before .before .before .before .before .before .numbers
+            .given) (holds-numbers a),
+      ),
+      (
+        has-room a,
+        ready-results a (reduces-is
+            (c .before .before .before .before .before .before .before .before .before .before .before .before .before .before .before .before .before .before
+            .before .before .before .reduce .ensures .0)
+            (c .before .before .before .before .before .before .before .before .before .before .before .before .before .enum-told2 .given .1)),
+      ),
+    )
 
 -- src/accepted.rt:14:1
 same-length : tie.Need-same-length
@@ -50,27 +72,45 @@ same-length-3 c = search needs
 
 -- src/accepted.rt:14:1
 returns : tie.Need-returns
-returns c = let a = accept (c .before .before .before .before .before .before .before .before .before .before .before .before .before .before .before .before .before .before .before .before .before .before .before .before .before .before .before .before .before .before .before .before .before .before .before .before .before .before .before .before .before .before .before .before .before .pre) refl refl refl refl (c .before .before .before .before .before .before .before .before .before .before .before .before .before .before .before .before .before .before .before .before .before .before .is-mip .ensures) refl in promise-stopped a (reduces-is (c .before .before .before .before .before .before .before .before .before .before .before .before .before .before .before .before .before .before .reduce .ensures) (c .before .before .before .before .before .before .before .before .before .before .enum-told .given .1)) (c .before .before .before .before .before .before .stopped .ensures .0) (c .before .before .before .before .before .before .stopped .ensures .1 ∙ same-space _ _ (c .before .before .before .before .before .before .before .before .before .before .before .before .before .before .before .floats .given) (c .before .before .before .before .before .before .before .before .before .before .before .before .before .numbers .given) (c .before .before .before .before .before .before .before .before .before .before .before .before .before .before .before .before .before .adjacency .given))
+returns c = let a = accept
+    (c .before .before .before .before .before .before .before .before .before .before .before .before .before .before .before .before .before .before .before
+    .before .before .before .before .before .before .before .before .before .before .before .before .before .before .before .before .before .before .before
+    .before .before .before .before .before .before .before .pre) refl refl refl refl
+    (c .before .before .before .before .before .before .before .before .before .before .before .before .before .before .before .before .before .before .before
+    .before .before .before .is-mip .ensures) refl in
+    promise-stopped a (reduces-is
+    (c .before .before .before .before .before .before .before .before .before .before .before .before .before .before .before .before .before .before .reduce
+    .ensures .0) (c .before .before .before .before .before .before .before .before .before .before .enum-told .given .1))
+    (c .before .before .before .before .before .before .stopped .ensures .0) (c .before .before .before .before .before .before .stopped .ensures .1
+    ∙ same-space _ _ (c .before .before .before .before .before .before .before .before .before .before .before .before .before .before .before .floats .given)
+    (c .before .before .before .before .before .before .before .before .before .before .before .before .before .numbers .given)
+    (c .before .before .before .before .before .before .before .before .before .before .before .before .before .before .before .before .before .adjacency
+    .given))
 
 -- src/accepted.rt:14:1
 same-length-4 : tie.Need-same-length-4
-same-length-4 c = c .before .before .before .before .before .before .before .before .before .before .before .before .before .before .before .before .before .before .before .before .before .before .before .before .before .out-lower .given
+same-length-4 c = c .before .before .before .before .before .before .before .before .before .before .before .before .before .before .before .before .before
+    .before .before .before .before .before .before .before .before .out-lower .given
 
 -- src/accepted.rt:14:1
 same-length-5 : tie.Need-same-length-5
-same-length-5 c = c .before .before .before .before .before .before .before .before .before .before .before .before .before .before .before .before .before .before .before .before .before .before .before .out-upper .given
+same-length-5 c = c .before .before .before .before .before .before .before .before .before .before .before .before .before .before .before .before .before
+    .before .before .before .before .before .before .out-upper .given
 
 -- src/accepted.rt:14:1
 same-length-6 : tie.Need-same-length-6
-same-length-6 c = c .before .before .before .before .before .before .before .before .before .before .before .before .before .before .before .before .before .before .before .before .before .emit-row .given
+same-length-6 c = c .before .before .before .before .before .before .before .before .before .before .before .before .before .before .before .before .before
+    .before .before .before .before .emit-row .given
 
 -- src/accepted.rt:14:1
 same-length-7 : tie.Need-same-length-7
-same-length-7 c = c .before .before .before .before .before .before .before .before .before .before .before .before .before .before .before .before .before .before .before .emit-rewritten .given
+same-length-7 c = c .before .before .before .before .before .before .before .before .before .before .before .before .before .before .before .before .before
+    .before .before .emit-rewritten .given
 
 -- src/accepted.rt:14:1
 same-length-8 : tie.Need-same-length-8
-same-length-8 c = c .before .before .before .before .before .before .before .before .before .before .before .before .before .before .before .before .before .emit-rhs .given
+same-length-8 c = c .before .before .before .before .before .before .before .before .before .before .before .before .before .before .before .before .before
+    .emit-rhs .given
 
 -- src/accepted.rt:14:1
 same-length-9 : tie.Need-same-length-9
@@ -94,45 +134,57 @@ same-length-13 c = c .before .before .before .before .before .before .before .te
 
 -- src/accepted.rt:14:1
 same-length-14 : tie.Need-same-length-14
-same-length-14 c = c .before .before .before .before .before .floats3 .given ∙ c .before .before .before .before .before .before .before .before .before .before .before .before .before .before .before .before .before .before .before .before .before .before .before .before .before .before .before .before .before .before .before .before .before .before .before .before .before .before .before .before .before .before .before .before .before .floats .given
+same-length-14 c = c .before .before .before .before .before .floats3 .given
+    ∙ c .before .before .before .before .before .before .before .before .before .before .before .before .before .before .before .before .before .before .before
+    .before .before .before .before .before .before .before .before .before .before .before .before .before .before .before .before .before .before .before
+    .before .before .before .before .before .before .before .floats .given
 
 -- src/accepted.rt:14:1
 same-length-15 : tie.Need-same-length-15
-same-length-15 c = c .before .before .before .numbers3 .given ∙ c .before .before .before .before .before .before .before .before .before .before .before .before .before .before .before .before .before .before .before .before .before .before .before .before .before .before .before .before .before .before .before .before .before .before .before .before .before .before .before .before .before .before .before .numbers .given
+same-length-15 c = c .before .before .before .numbers3 .given
+    ∙ c .before .before .before .before .before .before .before .before .before .before .before .before .before .before .before .before .before .before .before
+    .before .before .before .before .before .before .before .before .before .before .before .before .before .before .before .before .before .before .before
+    .before .before .before .before .before .numbers .given
 
 -- src/accepted.rt:14:1
 same-length-16 : tie.Need-same-length-16
-same-length-16 c = c .before .adjacency3 .given ∙ c .before .before .before .before .before .before .before .before .before .before .before .before .before .before .before .before .before .before .before .before .before .before .before .before .before .before .before .before .before .before .before .before .before .before .before .before .before .before .before .before .before .before .before .before .before .before .before .adjacency .given
+same-length-16 c = c .before .adjacency3 .given
+    ∙ c .before .before .before .before .before .before .before .before .before .before .before .before .before .before .before .before .before .before .before
+    .before .before .before .before .before .before .before .before .before .before .before .before .before .before .before .before .before .before .before
+    .before .before .before .before .before .before .before .before .before .adjacency .given
 
 -- src/accepted.rt:14:1
 returns-2 : tie.Need-returns-2
-returns-2 c = let a = accept (c .before .before .before .before .before .before .before .before .before .before .before .before .before .before .before .before .before .before .before .before .before .before .before .before .before .before .before .before .before .before .before .before .before .before .before .before .before .before .before .before .before .before .before .before .before .before .before .before .before .before .before .before .before .before .before .before .before .before .before .before .before .before .before .before .before .before .before .before .before .before .before .before .before .before .before .pre) refl refl refl refl (c .before .before .before .before .before .before .before .before .before .before .before .before .before .before .before .before .before .before .before .before .before .before .before .before .before .before .before .before .before .before .before .before .before .before .before .before .before .before .before .before .before .before .before .before .before .before .before .before .before .before .before .before .is-mip .ensures) refl in promise-done a (reduces-is (c .before .before .before .before .before .before .before .before .before .before .before .before .before .before .before .before .before .before .before .before .before .before .before .before .before .before .before .before .before .before .before .before .before .before .before .before .before .before .before .before .before .before .before .before .before .before .before .before .reduce .ensures) (c .before .before .before .before .before .before .before .before .before .before .before .before .before .before .before .before .before .before .before .before .before .before .before .before .before .before .before .before .before .before .before .before .before .before .before .before .before .before .before .before .enum-told2 .given .1)) (c .before .before .before .before .before .before .before .before .before .before .before .before .before .before .before .before .before .before .before .before .before .before .before .before .before .before .finished .ensures .0) (c .before .before .before .before .before .before .before .before .before .before .before .before .before .before .before .before .before .before .before .before .before .before .before .before .before .before .finished .ensures .1 ∙ same-space _ _ (c .before .before .before .before .before .before .before .before .before .before .before .before .before .before .before .before .before .before .before .before .before .before .before .before .before .before .before .before .before .before .before .before .before .before .before .before .before .before .before .before .before .before .before .before .before .floats .given) (c .before .before .before .before .before .before .before .before .before .before .before .before .before .before .before .before .before .before .before .before .before .before .before .before .before .before .before .before .before .before .before .before .before .before .before .before .before .before .before .before .before .before .before .numbers .given) (c .before .before .before .before .before .before .before .before .before .before .before .before .before .before .before .before .before .before .before .before .before .before .before .before .before .before .before .before .before .before .before .before .before .before .before .before .before .before .before .before .before .before .before .before .before .before .before .adjacency .given))
+returns-2 c = let a = accept
+    (c .before .before .before .before .before .before .before .before .before .before .before .before .before .before .before .before .before .before .before
+    .before .before .before .before .before .before .before .before .before .before .before .before .before .before .before .before .before .before .before
+    .before .before .before .before .before .before .before .before .before .before .before .before .before .before .before .before .before .before .before
+    .before .before .before .before .before .before .before .before .before .before .before .before .before .before .before .before .before .before .pre) refl
+    refl refl refl (c .before .before .before .before .before .before .before .before .before .before .before .before .before .before .before .before .before
+    .before .before .before .before .before .before .before .before .before .before .before .before .before .before .before .before .before .before .before
+    .before .before .before .before .before .before .before .before .before .before .before .before .before .before .before .before .is-mip .ensures) refl in
+    promise-done a (reduces-is
+    (c .before .before .before .before .before .before .before .before .before .before .before .before .before .before .before .before .before .before .before
+    .before .before .before .before .before .before .before .before .before .before .before .before .before .before .before .before .before .before .before
+    .before .before .before .before .before .before .before .before .before .before .reduce .ensures .0)
+    (c .before .before .before .before .before .before .before .before .before .before .before .before .before .before .before .before .before .before .before
+    .before .before .before .before .before .before .before .before .before .before .before .before .before .before .before .before .before .before .before
+    .before .before .enum-told2 .given .1))
+    (c .before .before .before .before .before .before .before .before .before .before .before .before .before .before .before .before .before .before .before
+    .before .before .before .before .before .before .before .finished .ensures .0)
+    (c .before .before .before .before .before .before .before .before .before .before .before .before .before .before .before .before .before .before .before
+    .before .before .before .before .before .before .before .finished .ensures .1
+    ∙ same-space _ _ (c .before .before .before .before .before .before .before .before .before .before .before .before .before .before .before .before .before
+    .before .before .before .before .before .before .before .before .before .before .before .before .before .before .before .before .before .before .before
+    .before .before .before .before .before .before .before .before .before .floats .given)
+    (c .before .before .before .before .before .before .before .before .before .before .before .before .before .before .before .before .before .before .before
+    .before .before .before .before .before .before .before .before .before .before .before .before .before .before .before .before .before .before .before
+    .before .before .before .before .before .numbers .given)
+    (c .before .before .before .before .before .before .before .before .before .before .before .before .before .before .before .before .before .before .before
+    .before .before .before .before .before .before .before .before .before .before .before .before .before .before .before .before .before .before .before
+    .before .before .before .before .before .before .before .before .before .adjacency .given))
 
 pub accepted-spec : {M : Type 1} → statement M
-accepted-spec =
-    tie.close
-    (tie.spec
-    is-mip-requires
-    reduce-requires
-    enum-told
-    stopped-requires
-    enum-told-2
-    finished-requires
-    same-length
-    same-length-2
-    same-length-3
-    returns
-    same-length-4
-    same-length-5
-    same-length-6
-    same-length-7
-    same-length-8
-    same-length-9
-    same-length-10
-    same-length-11
-    same-length-12
-    same-length-13
-    same-length-14
-    same-length-15
-    same-length-16
-    returns-2)
+accepted-spec = tie.close (tie.spec is-mip-requires reduce-requires enum-told stopped-requires enum-told-2 finished-requires same-length same-length-2
+    same-length-3 returns same-length-4 same-length-5 same-length-6 same-length-7 same-length-8 same-length-9 same-length-10 same-length-11 same-length-12
+    same-length-13 same-length-14 same-length-15 same-length-16 returns-2)

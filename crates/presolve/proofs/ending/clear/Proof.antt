@@ -3,10 +3,6 @@ use Rattle.presolve.specs.Steps.{all-zero}
 use borrow.Author.Needs.{needs}
 use Rattle.presolve.proofs.ending.clear.Statement.{statement}
 use Rattle.presolve.proofs.ending.clear.Tie as tie
-use Rattle.presolve.proofs.ending.clear.Reads as reads
-use Rattle.presolve.proofs.ending.clear.Lts as lts
-use Rattle.zeros.proofs.clear_floats.Reads as clear-floats-reads
-use Rattle.zeros.proofs.clear_numbers.Reads as clear-numbers-reads
 
 -- src/ending.rt:18:5
 clear-floats-requires : tie.Need-clear-floats-requires
@@ -34,16 +30,8 @@ same-length-3 c = search needs
 
 -- src/ending.rt:15:1
 returns : tie.Need-returns
-returns c = all-zero _ _ _ (c .before .before .before .before .before .before .before .before .before .before .clear-floats .ensures) (c .before .before .before .before .before .before .clear-numbers .ensures) (c .before .before .clear-numbers2 .ensures)
+returns c = all-zero _ _ _ (c .before .before .before .before .before .before .before .before .before .before .clear-floats .ensures)
+    (c .before .before .before .before .before .before .clear-numbers .ensures) (c .before .before .clear-numbers2 .ensures)
 
 pub clear-spec : {M : Type 1} → statement M
-clear-spec =
-    tie.close
-    (tie.spec
-    clear-floats-requires
-    clear-numbers-requires
-    clear-numbers-requires-2
-    same-length
-    same-length-2
-    same-length-3
-    returns)
+clear-spec = tie.close (tie.spec clear-floats-requires clear-numbers-requires clear-numbers-requires-2 same-length same-length-2 same-length-3 returns)

@@ -4,10 +4,6 @@ use Rattle.presolve.specs.Steps.{same-space}
 use borrow.Author.Needs.{needs}
 use Rattle.presolve.proofs.ending.finished.Statement.{statement}
 use Rattle.presolve.proofs.ending.finished.Tie as tie
-use Rattle.presolve.proofs.ending.finished.Reads as reads
-use Rattle.presolve.proofs.ending.finished.Lts as lts
-use Rattle.output.proofs.write_results.Reads as write-results-reads
-use Rattle.presolve.proofs.ending.clear.Reads as clear-reads
 
 -- src/ending.rt:69:9
 write-results-requires : tie.Need-write-results-requires
@@ -71,25 +67,20 @@ same-length-13 c = search needs
 
 -- src/ending.rt:40:1
 returns : tie.Need-returns
-returns c = (record { reduced = _; is = refl; writes = c .before .before .before .before .before .before .before .before .before .before .before .before .before .before .before .before .before .before .before .before .before .before .before .before .before .before .before .before .before .before .before .before .before .before .write-results .ensures }, c .before .before .before .before .before .before .clear .ensures ∙ same-space _ _ (c .before .before .before .before .before .before .before .before .before .before .before .before .before .before .before .before .before .before .before .before .before .before .before .before .before .before .before .before .before .before .before .before .before .floats .given) (c .before .before .before .before .before .before .before .before .before .before .before .before .before .before .before .before .before .before .before .before .before .before .before .before .before .before .before .before .before .before .before .numbers .given) refl)
+returns c = (
+  record {
+    reduced = _;
+    is = refl;
+    writes = c .before .before .before .before .before .before .before .before .before .before .before .before .before .before .before .before .before .before
+        .before .before .before .before .before .before .before .before .before .before .before .before .before .before .before .before .write-results .ensures;
+  },
+  c .before .before .before .before .before .before .clear .ensures
+      ∙ same-space _ _ (c .before .before .before .before .before .before .before .before .before .before .before .before .before .before .before .before
+      .before .before .before .before .before .before .before .before .before .before .before .before .before .before .before .before .before .floats .given)
+      (c .before .before .before .before .before .before .before .before .before .before .before .before .before .before .before .before .before .before .before
+      .before .before .before .before .before .before .before .before .before .before .before .before .numbers .given) refl,
+)
 
 pub finished-spec : {M : Type 1} → statement M
-finished-spec =
-    tie.close
-    (tie.spec
-    write-results-requires
-    clear-requires
-    same-length
-    same-length-2
-    same-length-3
-    same-length-4
-    same-length-5
-    same-length-6
-    same-length-7
-    same-length-8
-    same-length-9
-    same-length-10
-    same-length-11
-    same-length-12
-    same-length-13
-    returns)
+finished-spec = tie.close (tie.spec write-results-requires clear-requires same-length same-length-2 same-length-3 same-length-4 same-length-5 same-length-6
+    same-length-7 same-length-8 same-length-9 same-length-10 same-length-11 same-length-12 same-length-13 returns)

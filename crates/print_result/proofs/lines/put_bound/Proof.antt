@@ -5,40 +5,11 @@ use borrow.Author.Needs.{needs}
 use Rattle.print_result.proofs.lines.put_bound.Statement.{statement}
 use Rattle.print_result.proofs.lines.put_bound.Tie as tie
 
-slice-aggregate-put-text : tie.Need-slice-aggregate-put-text
-slice-aggregate-put-text c = search needs
-
-put-text-requires : tie.Need-put-text-requires
-put-text-requires c κs = search needs
-
-put-number-requires : tie.Need-put-number-requires
-put-number-requires c κs = search needs
-
-put-float-requires : tie.Need-put-float-requires
-put-float-requires c κs = search needs
-
-put-float-requires-2 : tie.Need-put-float-requires-2
-put-float-requires-2 c κs = search needs
-
-put-byte-requires : tie.Need-put-byte-requires
-put-byte-requires c κs = search needs
-
-same-length : tie.Need-same-length
-same-length c = search needs
-
-returns : tie.Need-returns
-unfolding ascii boundLine
-returns c = c .before .before .before .before .before .before .before .before .before .before .before .before .before .before .before .before .before .before .put-text .ensures ⨟ (c .before .before .before .before .before .before .before .before .before .before .before .before .before .before .put-number .ensures ⨟ (c .before .before .before .before .before .before .before .before .before .before .put-float .ensures ⨟ (c .before .before .before .before .before .before .put-float2 .ensures ⨟ c .before .before .put-byte .ensures)))
-
 pub put-bound-spec : {M : Type 1} → statement M
-put-bound-spec =
-    tie.close
-    (tie.spec
-    slice-aggregate-put-text
-    put-text-requires
-    put-number-requires
-    put-float-requires
-    put-float-requires-2
-    put-byte-requires
-    same-length
-    returns)
+unfolding ascii boundLine
+put-bound-spec = tie.close (tie.spec (search needs) (search needs) (search needs) (search needs) (search needs) (search needs) (search needs)
+    (λ c. let after-put-text : tie.After-put-text = search in let after-put-number : tie.After-put-number = search in
+    let after-put-float : tie.After-put-float = search in
+    after-put-text .put-text .ensures ⨟
+    (after-put-number .put-number .ensures ⨟
+    (after-put-float .put-float .ensures ⨟ (c .before .before .before .before .before .before .put-float2 .ensures ⨟ c .before .before .put-byte .ensures)))))

@@ -5,12 +5,6 @@ use borrow.Author.Needs.{needs}
 use Rattle.print_result.proofs.put.digit_of.Statement.{statement}
 use Rattle.print_result.proofs.put.digit_of.Tie as tie
 
-element-copy-out-result : tie.Need-element-copy-out-result
-element-copy-out-result c = search needs
-
-returns : tie.Need-returns
-unfolding ascii digit
-returns c = refl
-
 pub digit-of-spec : {M : Type 1} → statement M
-digit-of-spec = tie.close (tie.spec element-copy-out-result returns)
+unfolding ascii digit
+digit-of-spec = tie.close (tie.spec (search needs) (λ c. refl))

@@ -1,17 +1,26 @@
--- A part of a list, clipped to what there is.
-use Prim.Native.Nat.{ℕ, _+_, _-_, _≤_}
+-- THE PART OF A LIST that an emitted row's terms are, clipped to what there is.
+use Prim.Native.Nat.{ℕ, zero, suc, _+_, _-_, _≤_, min}
 use native.Mathlib.Omega.{arith}
-use mathlib.Core.Path.{_≡_, ap, sym, _∙_}
+use native.Mathlib.Nat.{sub-zero, zero-sub, suc-sub-suc}
+use mathlib.Core.Path.{_≡_, refl, ap, sym, _∙_}
 use mathlib.Core.Bool.{Bool, true, false}
-use mathlib.Core.List.{List}
+use mathlib.Core.List.{List, [], _∷_}
 use lib.ListN.{length, take, drop, drop-of-length-le}
-use lib.Seq.{slice, take-all, take-add, drop-at, length-take-le}
+use lib.Seq.{slice, take-nil, take-all, take-add, drop-at, length-take-le}
 use Rattle.floats.specs.Num.{choose}
-use Rattle.view.specs.Lists.{yes, no}
 
+-- a span's part of whichever list holds the row: the rewritten one, or the model's
+abbrev pub rowPart : {A : Type 0} → Bool → ℕ → ℕ → List A → List A → List A
+rowPart rewritten from upto model other = slice from upto (choose rewritten other model)
+
+-- ---- the smaller of two numbers
 pub data Least (a b z : ℕ) : Type 0 where
   first : a ≤ b → z ≡ a → Least a b z
   second : b ≤ a → z ≡ b → Least a b z
+
+pub least-min : {a b z : ℕ} → Least a b z → z ≡ min a b
+least-min (first l e) = omega (arith, l, e)
+least-min (second l e) = omega (arith, l, e)
 
 pub least-second : {a b z : ℕ} → Least a b z → z ≤ b
 least-second (first l e) = omega (arith, l, e)
@@ -36,8 +45,18 @@ module _ {A : Type 0} where
       let z : length (take e l) ≤ e = let y = length-take-le e l (least-second p) in omega (arith, y) in
       take-slice l a e (least-second q) (least-second p) ∙ start-clipped (take e l) f e a z q ∙ ap (drop f) (end-clipped l t e p)
 
-  pub part-yes : {b : Bool} (f t : ℕ) {z : List A} (xs ys : List A) → b ≡ true → z ≡ slice f t xs → z ≡ slice f t (choose b xs ys)
-  part-yes f t xs ys e h = h ∙ ap (slice f t) (sym (yes xs ys e))
+  -- a part as it is lent: from its start, so many
+  pub part : (f t : ℕ) (l : List A) → slice f t l ≡ take (t - f) (drop f l)
+  part zero t l = rw (sub-zero t) refl
+  part (suc f) zero l = rw (zero-sub (suc f)) refl
+  part (suc f) (suc t) [] = sym (take-nil (suc t - suc f))
+  part (suc f) (suc t) (x ∷ xs) = rw (suc-sub-suc t f) (part f t xs)
 
-  pub part-no : {b : Bool} (f t : ℕ) {z : List A} (xs ys : List A) → b ≡ false → z ≡ slice f t ys → z ≡ slice f t (choose b xs ys)
-  part-no f t xs ys e h = h ∙ ap (slice f t) (sym (no xs ys e))
+  -- ---- a row's part, by its mark
+  pub part-yes : {b : Bool} (f t : ℕ) {z : List A} (xs ys : List A) → b ≡ true → z ≡ slice f t xs → z ≡ rowPart b f t ys xs
+  unfolding choose
+  part-yes f t xs ys e h = rw e h
+
+  pub part-no : {b : Bool} (f t : ℕ) {z : List A} (xs ys : List A) → b ≡ false → z ≡ slice f t ys → z ≡ rowPart b f t ys xs
+  unfolding choose
+  part-no f t xs ys e h = rw e h

@@ -1,12 +1,11 @@
-// The terms of an emitted row: a part of the model's slices, or of the rewritten ones.
+// The parts: of the variables, and of the coefficients.
 ghost use mathlib.Core.Path.{_≡_};
 ghost use lib.Seq.{slice};
-ghost use Rattle.floats.specs.Num.{choose};
-ghost use Rattle.emit.specs.RowMark.{marked};
-ghost use Rattle.emit.specs.Parts.{Least};
+ghost use Rattle.row_terms.specs.RowMark.{marked};
+ghost use Rattle.row_terms.specs.Parts.{Least, rowPart};
 
 // The smaller of two numbers.
-fn least(a: usize, b: usize) -> usize
+pub(crate) fn least(a: usize, b: usize) -> usize
     ensures { λ z. ⌜ Least a b z ⌝ }
 {
     if a < b {
@@ -36,15 +35,15 @@ fn coeffs_at<'a>(l: &'a [f64], from: usize, upto: usize) -> &'a [f64]
 // The variables of an emitted row's terms, by its mark and its span.
 pub fn row_vars<'a>(
     index: &'a [usize],
-    rewritten_index: &'a [usize],
+    term_index: &'a [usize],
     mark: u8,
     from: usize,
     upto: usize,
 ) -> &'a [usize]
-    ensures { λ z. ⌜ now z ≡ slice from upto (choose (marked mark) (now («rewritten_index» .entry)) (now (index .entry))) ⌝ }
+    ensures { λ z. ⌜ now z ≡ rowPart (marked mark) from upto (now (index .entry)) (now («term_index» .entry)) ⌝ }
 {
     if mark != 0 {
-        return vars_at(rewritten_index, from, upto);
+        return vars_at(term_index, from, upto);
     }
     vars_at(index, from, upto)
 }
@@ -52,15 +51,15 @@ pub fn row_vars<'a>(
 // Their coefficients.
 pub fn row_coeffs<'a>(
     coeff: &'a [f64],
-    rewritten_coeff: &'a [f64],
+    term_coeff: &'a [f64],
     mark: u8,
     from: usize,
     upto: usize,
 ) -> &'a [f64]
-    ensures { λ z. ⌜ now z ≡ slice from upto (choose (marked mark) (now («rewritten_coeff» .entry)) (now (coeff .entry))) ⌝ }
+    ensures { λ z. ⌜ now z ≡ rowPart (marked mark) from upto (now (coeff .entry)) (now («term_coeff» .entry)) ⌝ }
 {
     if mark != 0 {
-        return coeffs_at(rewritten_coeff, from, upto);
+        return coeffs_at(term_coeff, from, upto);
     }
     coeffs_at(coeff, from, upto)
 }
