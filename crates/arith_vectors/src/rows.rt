@@ -151,7 +151,7 @@ fn all_rows() {
     row(0, -0.0, -0.0, 5e-324, 0.0, 0.0, 0.0);
 }
 
-// The same by slices.
+// A row as slices: implied_slack and row_violation.
 fn listed(op: u8, rhs: f64) {
     let index: [usize; 3] = [2, 0, 1];
     let coeff: [f64; 3] = [1.0, -2.0, 0.1];

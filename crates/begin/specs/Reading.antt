@@ -103,7 +103,8 @@ module _ (rows : List Row) (x : Row) {r : ℕ} (e : length rows ≡ r) (P : ℕ 
       go (inr q) = let l : i < r = omega arith in rw (List·getD-append rows (x ∷ []) noRow i (omega arith)) (h i l)
 
 -- ---- one row more
-module _ {M : Model} {s : Shape} {r : ℕ} {f : Floats} {n : Numbers} {rows : List Row} {queue : List ℕ} {dirty : List Bool} {drops : ℕ} (c : Call M s) (h : Front M r f n rows queue dirty drops) (p : r < s .rows) (b : RowsLong s n) where
+module _ {M : Model} {s : Shape} {r : ℕ} {f : Floats} {n : Numbers} {rows : List Row} {queue : List ℕ} {dirty : List Bool} {drops : ℕ} (c : Call M s)
+    (h : Front M r f n rows queue dirty drops) (p : r < s .rows) (b : RowsLong s n) where
   front-skip : {n′ : Numbers} → n′ ≡ skipped r n → Front M (suc r) f n′ (rows ++ (withAlive false (asWritten M r) ∷ [])) queue (dirty ++ (false ∷ [])) (suc drops)
   front-skip e =
       rw e
@@ -127,14 +128,16 @@ module _ {M : Model} {s : Shape} {r : ℕ} {f : Floats} {n : Numbers} {rows : Li
         alive = row-more rows (withAlive false (asWritten M r)) (h .rowses) (λ i x. isOne (getD (set (n .alive) r 0) i 0) ≡ x .alive)
             (λ i q. ap isOne (getD-set-other (n .alive) r i 0 0 (λ z. omega arith)) ∙ h .alive i q)
             (ap isOne (getD-set-same (n .alive) r 0 0 (omega (arith, p, b .alive))) ∙ zero-is);
-        shown = row-more rows (withAlive false (asWritten M r)) (h .rowses) (λ i x. x .alive ≡ true → RowShown M (partsOf f n) i x) (h .shown) (λ z. absurd (let y : _≡_ {A = ℕ} 0 1 = cc in omega arith));
+        shown = row-more rows (withAlive false (asWritten M r)) (h .rowses) (λ i x. x .alive ≡ true → RowShown M (partsOf f n) i x) (h .shown)
+            (λ z. absurd (let y : _≡_ {A = ℕ} 0 1 = cc in omega arith));
         inv = row-more rows (withAlive false (asWritten M r)) (h .rowses) (λ i x. x .alive ≡ true → RowInv M i x) (h .inv) (λ z. absurd (let y : _≡_ {A = ℕ} 0 1 = cc in omega arith));
       })
 
   front-room : getD (n .queued) 0 0 ≤ r
   front-room = let z = marked-le dirty in omega (arith, z, h .queued, h .room, h .dirties)
 
-  front-add : {f₁ : Floats} {n₁ n₂ : Numbers} → OneRow M r (asWritten M r) f n f₁ n₁ → n₂ ≡ joined r n₁ → Front M (suc r) f₁ n₂ (rows ++ (asWritten M r ∷ [])) (queue ++ (r ∷ [])) (dirty ++ (true ∷ [])) drops
+  front-add : {f₁ : Floats} {n₁ n₂ : Numbers} → OneRow M r (asWritten M r) f n f₁ n₁ → n₂ ≡ joined r n₁
+      → Front M (suc r) f₁ n₂ (rows ++ (asWritten M r ∷ [])) (queue ++ (r ∷ [])) (dirty ++ (true ∷ [])) drops
   unfolding asWritten
   front-add {f₁} {n₁} {n₂} d e =
       let rr : r < length (M .rhs) = omega (arith, p, c .rows) in
@@ -157,7 +160,8 @@ module _ {M : Model} {s : Shape} {r : ℕ} {f : Floats} {n : Numbers} {rows : Li
             ∙ ap (λ (l : List ℕ). l ++ (r ∷ [])) qs;
         counted = subst (λ (t : Tally). Counted t (counts drops 0 0 0 0)) (sym (d .tally)) (h .counted);
         alive = row-more rows (asWritten M r) (h .rowses) (λ i x. isOne (getD (n₁ .alive) i 0) ≡ x .alive) (λ i q. ap isOne (d .aliveOther i (λ z. omega arith)) ∙ h .alive i q) (d .alive);
-        shown = row-more rows (asWritten M r) (h .rowses) (λ i x. x .alive ≡ true → RowShown M (partsOf f₁ n₁) i x) (λ i q a. d .other i (getD rows i noRow) (omega (arith, q, rr)) (λ z. omega arith) (h .shown i q a)) (d .now);
+        shown = row-more rows (asWritten M r) (h .rowses) (λ i x. x .alive ≡ true → RowShown M (partsOf f₁ n₁) i x)
+            (λ i q a. d .other i (getD rows i noRow) (omega (arith, q, rr)) (λ z. omega arith) (h .shown i q a)) (d .now);
         inv = row-more rows (asWritten M r) (h .rowses) (λ i x. x .alive ≡ true → RowInv M i x) (h .inv) (λ z. as-written-inv c rr);
       })
 
@@ -217,7 +221,8 @@ pub record ReadsOne (P : Model → Type 0) (s : Shape) (r : ℕ) (f : Floats) (n
 abbrev pub verdictAt : Shape → List ℕ → List ℕ → List Float → ℕ → Option Bool
 verdictAt s ss os bs r = trivialVerdict (s .feas) (getD os r 0) (getD ss (r + 1) 0 - getD ss r 0) (at bs r)
 
-pub verdict-is : {ss os : List ℕ} {bs : List Float} {s : Shape} (r : ℕ) (M : Model) → M .starts ≡ ss → M .cmp ≡ os → M .rhs ≡ bs → Call M s → trivialVerdict (M .feas) (opOf M r) (nnz M r) (rhsOf M r) ≡ verdictAt s ss os bs r
+pub verdict-is : {ss os : List ℕ} {bs : List Float} {s : Shape} (r : ℕ) (M : Model) → M .starts ≡ ss → M .cmp ≡ os → M .rhs ≡ bs → Call M s
+    → trivialVerdict (M .feas) (opOf M r) (nnz M r) (rhsOf M r) ≡ verdictAt s ss os bs r
 unfolding opOf rhsOf nnz from upto
 verdict-is r M es eo eb c = rw (es, eo, eb, ← c .feas)
 
@@ -237,7 +242,8 @@ module _ {ss is : List ℕ} {cs : List Float} {os : List ℕ} {bs : List Float} 
         go : (M : Model) {x : Rows} → Written ss is cs os bs M → Call M s → RowsShown M r f n Next x → RowsShown M (suc r) f n Stop (readRow M r x)
         go M k c (shown h) = rw (verdict-is r M (k .starts) (k .cmp) (k .rhs) c, ← t, e) (failed (h .counted))
 
-    pub read-add : {f₁ : Floats} {n₁ n₂ : Numbers} → z ≡ Open → ((M : Model) → Written ss is cs os bs M → Call M s → OneRow M r (asWritten M r) f n f₁ n₁) → n₂ ≡ joined r n₁ → ReadsOne (Written ss is cs os bs) s r f n f₁ n₂ Next
+    pub read-add : {f₁ : Floats} {n₁ n₂ : Numbers} → z ≡ Open → ((M : Model) → Written ss is cs os bs M → Call M s → OneRow M r (asWritten M r) f n f₁ n₁)
+        → n₂ ≡ joined r n₁ → ReadsOne (Written ss is cs os bs) s r f n f₁ n₂ Next
     unfolding readRow addRow
     read-add {f₁} {n₁} {n₂} e o g =
         record {
@@ -348,7 +354,8 @@ rows-long {s} l h =
     }
 
 -- there is room for row r once it is written
-pub queue-room : {P : Model → Type 0} {s : Shape} {r : ℕ} {f f₁ : Floats} {n n₁ : Numbers} {X : Model → Row} → Given P s → Writes P s r f n f₁ n₁ X → r < s .rows → getD (n .queued) 0 0 ≤ r → getD (n₁ .queued) 0 0 < s .rows
+pub queue-room : {P : Model → Type 0} {s : Shape} {r : ℕ} {f f₁ : Floats} {n n₁ : Numbers} {X : Model → Row} → Given P s → Writes P s r f n f₁ n₁ X
+    → r < s .rows → getD (n .queued) 0 0 ≤ r → getD (n₁ .queued) 0 0 < s .rows
 queue-room G h p q = omega (arith, p, q, ap (λ (l : List ℕ). getD l 0 0) (h .does (G .model) (G .known) (G .call) .queued))
 
 -- the queue's room in a turn
@@ -356,11 +363,14 @@ pub turn-room : {P : Model → Type 0} {s : Shape} {r : ℕ} {f₀ f : Floats} {
 turn-room G i = read-room i (G .model) (G .known) (G .call)
 
 -- ---- the stores, one after the other
-pub clear-end : (n : Numbers) {n₁ n₂ n₃ n₄ n₅ n₆ : Numbers} → n₁ ≡ put-queued 0 0 n → n₂ ≡ put-dropped 0 0 n₁ → n₃ ≡ put-tightened 0 0 n₂ → n₄ ≡ put-fixed 0 0 n₃ → n₅ ≡ put-rewrote 0 0 n₄ → n₆ ≡ put-passes 0 0 n₅ → n₆ ≡ cleared n
+pub clear-end : (n : Numbers) {n₁ n₂ n₃ n₄ n₅ n₆ : Numbers} → n₁ ≡ put-queued 0 0 n → n₂ ≡ put-dropped 0 0 n₁ → n₃ ≡ put-tightened 0 0 n₂
+    → n₄ ≡ put-fixed 0 0 n₃ → n₅ ≡ put-rewrote 0 0 n₄ → n₆ ≡ put-passes 0 0 n₅ → n₆ ≡ cleared n
 clear-end n e₁ e₂ e₃ e₄ e₅ e₆ = rw (e₆, e₅, e₄, e₃, e₂, e₁)
 
-pub skip-end : (r : ℕ) (n : Numbers) {n₁ n₂ n₃ n₄ : Numbers} → n₁ ≡ put-alive r 0 n → n₂ ≡ put-dirty r 0 n₁ → n₃ ≡ put-coeffDirty r 0 n₂ → n₄ ≡ put-dropped 0 ((getD (n₃ .dropped) 0 0 + 1) % 2 ^ 64) n₃ → n₄ ≡ skipped r n
+pub skip-end : (r : ℕ) (n : Numbers) {n₁ n₂ n₃ n₄ : Numbers} → n₁ ≡ put-alive r 0 n → n₂ ≡ put-dirty r 0 n₁ → n₃ ≡ put-coeffDirty r 0 n₂
+    → n₄ ≡ put-dropped 0 ((getD (n₃ .dropped) 0 0 + 1) % 2 ^ 64) n₃ → n₄ ≡ skipped r n
 skip-end r n e₁ e₂ e₃ e₄ = rw (e₄, e₃, e₂, e₁)
 
-pub queue-end : (r : ℕ) (n : Numbers) {q : ℕ} {n₁ n₂ n₃ n₄ : Numbers} → q ≡ getD (n .queued) 0 0 → n₁ ≡ put-dirty r 1 n → n₂ ≡ put-coeffDirty r 1 n₁ → n₃ ≡ put-queue q r n₂ → n₄ ≡ put-queued 0 (q + 1) n₃ → n₄ ≡ joined r n
+pub queue-end : (r : ℕ) (n : Numbers) {q : ℕ} {n₁ n₂ n₃ n₄ : Numbers} → q ≡ getD (n .queued) 0 0 → n₁ ≡ put-dirty r 1 n → n₂ ≡ put-coeffDirty r 1 n₁
+    → n₃ ≡ put-queue q r n₂ → n₄ ≡ put-queued 0 (q + 1) n₃ → n₄ ≡ joined r n
 queue-end r n e e₁ e₂ e₃ e₄ = rw (e₄, e₃, e₂, e₁, e)

@@ -124,19 +124,23 @@ pub record FourLong (s : Shape) (f : Floats) : Type 0 where
   pub elo : length (f .elo) ≡ s .vars
   pub ehi : length (f .ehi) ≡ s .vars
 
-whole : {ls hs : List Float} {ds : List ℕ} {tol : Float} {s : Shape} (M : Model) → Limits ls hs ds tol M → Call M s → roundFrom M (length (M .lower)) 0 (bounds (M .lower) (M .upper)) ≡ roundFrom M (s .vars) 0 (bounds ls hs)
+whole : {ls hs : List Float} {ds : List ℕ} {tol : Float} {s : Shape} (M : Model) → Limits ls hs ds tol M → Call M s
+    → roundFrom M (length (M .lower)) 0 (bounds (M .lower) (M .upper)) ≡ roundFrom M (s .vars) 0 (bounds ls hs)
 whole M k c = rw (← c .vars, k .lower, k .upper)
 
 pub round-start : {ls hs : List Float} {ds : List ℕ} {tol : Float} {s : Shape} {f : Floats} → RoundInv ls hs ds tol s 0 f
 round-start {s = s} = let z : s .vars - 0 ≡ s .vars = omega arith in record { upto = omega arith; lows = refl; highs = refl; rest = λ M k c. rw z }
 
-module _ {ls hs : List Float} {ds : List ℕ} {tol : Float} {s : Shape} {v : ℕ} {f : Floats} (i : RoundInv ls hs ds tol s v f) (b : FourLong s f) (el : length ls ≡ s .vars) (eh : length hs ≡ s .vars) where
+module _ {ls hs : List Float} {ds : List ℕ} {tol : Float} {s : Shape} {v : ℕ} {f : Floats} (i : RoundInv ls hs ds tol s v f) (b : FourLong s f)
+    (el : length ls ≡ s .vars) (eh : length hs ≡ s .vars) where
   turn-is : {f′ : Floats} {z : Bool} → v < s .vars → (g : VarRounded ds s tol v (at ls v) (at hs v) f f′ z) (M : Model) → Limits ls hs ds tol M → Call M s
       → roundFrom M (s .vars) 0 (bounds ls hs) ≡ roundFrom M (s .vars - suc v) (suc v) (choose z (bounds (set (joined v (f .wlo) ls) v (g .low)) (set (joined v (f .whi) hs) v (g .high))) cross)
   turn-is p g M k c =
       sym (i .rest M k c) ∙ round-one M (s .vars) v _ p
       ∙ ap (roundFrom M (s .vars - suc v) (suc v))
-      (g .is M (joined v (f .wlo) ls) (joined v (f .whi) hs) (record { domain = k .domain }) (k .intTol) c (joined-at v (f .wlo) ls (omega (arith, p, b .wlo)) (omega (arith, p, el))) (joined-at v (f .whi) hs (omega (arith, p, b .whi)) (omega (arith, p, eh))))
+      (g .is M (joined v (f .wlo) ls) (joined v (f .whi) hs) (record { domain = k .domain }) (k .intTol) c
+      (joined-at v (f .wlo) ls (omega (arith, p, b .wlo)) (omega (arith, p, el)))
+      (joined-at v (f .whi) hs (omega (arith, p, b .whi)) (omega (arith, p, eh))))
 
   pub round-stop : {f′ f″ : Floats} {z : Bool} → v < s .vars → VarRounded ds s tol v (at ls v) (at hs v) f f′ z → z ≡ false → Rounded ls hs ds tol s f″ false
   unfolding choose

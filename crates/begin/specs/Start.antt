@@ -33,7 +33,8 @@ use Rattle.begin.specs.Reading.{cleared, RowsLong, Front, RowsShown, fai
 abbrev pub begun : List Float → List Float → List Row → List ℕ → List Bool → ℕ → Work
 begun ls hs rows queue dirty k = record { wlo = ls; whi = hs; elo = ls; ehi = hs; rows = rows; dirty = dirty; coeffDirty = dirty; queue = queue; counts = counts k 0 0 0 0 }
 
-module _ {M : Model} {s : Shape} {f : Floats} {n : Numbers} {rows : List Row} {queue : List ℕ} {dirty : List Bool} {drops : ℕ} (c : Call M s) (h : Front M (length (M .rhs)) f n rows queue dirty drops) where
+module _ {M : Model} {s : Shape} {f : Floats} {n : Numbers} {rows : List Row} {queue : List ℕ} {dirty : List Bool} {drops : ℕ} (c : Call M s)
+    (h : Front M (length (M .rhs)) f n rows queue dirty drops) where
   pub shows-begun : {ls hs : List Float} → RowsLong s n → f .wlo ≡ ls → f .whi ≡ hs → f .elo ≡ ls → f .ehi ≡ hs → Shows M f n (n .wave) (begun ls hs rows queue dirty drops)
   shows-begun b el eh gl gh =
       record {
@@ -109,7 +110,8 @@ pub ends-rounding : (M : Model) → crossed (M .lower) (M .upper) ≡ false → 
 unfolding presolve afterRounding
 ends-rounding M e r = no _ _ e ∙ rw r
 
-pub goes-on : (M : Model) {ls hs : List Float} → crossed (M .lower) (M .upper) ≡ false → roundFrom M (length (M .lower)) 0 (bounds (M .lower) (M .upper)) ≡ bounds ls hs → presolve M ≡ start M ls hs (allRows M)
+pub goes-on : (M : Model) {ls hs : List Float} → crossed (M .lower) (M .upper) ≡ false → roundFrom M (length (M .lower)) 0 (bounds (M .lower) (M .upper))
+    ≡ bounds ls hs → presolve M ≡ start M ls hs (allRows M)
 unfolding presolve afterRounding
 goes-on M e r = no _ _ e ∙ rw r
 

@@ -1,4 +1,4 @@
-// Bounds that cross as handed in.
+// src/presolve/mod.rs of microlp 0.7.0, changed: bounds that cross as handed in.
 ghost use mathlib.Core.Path.{_≡_};
 ghost use lib.ListN.{length};
 ghost use Rattle.definition.specs.Begin as definition;

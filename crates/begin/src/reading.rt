@@ -1,5 +1,5 @@
-// The rows, read by their verdicts: a row that is trivially true is never at work, and one that
-// cannot be met ends the call.
+// src/presolve/mod.rs of microlp 0.7.0, changed: the rows, read by their verdicts.
+// A row that is trivially true is never at work, and one that cannot be met ends the call.
 ghost use mathlib.Core.Path.{_≡_};
 ghost use Prim.Native.Nat.{_+_, _≤_, _<_};
 ghost use lib.ListN.{length, getD};
@@ -74,7 +74,8 @@ fn read_row(
 ) -> Step
     requires { ⌜ (r < s .rows) × (getD (numbersOf s (now m) .queued) 0 0 ≤ r) × HoldsF s (now w) × HoldsN s (now m) ⌝ }
     requires { ⌜ Given (Written (now starts) (now index) (now coeff) (now cmp) (now rhs)) s ⌝ }
-    ensures { λ z. ⌜ ReadsOne (Written (now (starts .entry)) (now (index .entry)) (now (coeff .entry)) (now (cmp .entry)) (now (rhs .entry))) s r (floatsOf s (now (w .entry))) (numbersOf s (now (m .entry))) (floatsOf s (now (w .exit))) (numbersOf s (now (m .exit))) z ⌝ }
+    ensures { λ z. ⌜ ReadsOne (Written (now (starts .entry)) (now (index .entry)) (now (coeff .entry)) (now (cmp .entry)) (now (rhs .entry))) s r
+        (floatsOf s (now (w .entry))) (numbersOf s (now (m .entry))) (floatsOf s (now (w .exit))) (numbersOf s (now (m .exit))) z ⌝ }
 {
     let v = verdict(starts, cmp, rhs, s, r);
     match v {
@@ -104,7 +105,8 @@ pub(crate) fn read_rows(
 ) -> Step
     requires { ⌜ HoldsF s (now w) × HoldsN s (now m) ⌝ }
     requires { ⌜ Given (Written (now starts) (now index) (now coeff) (now cmp) (now rhs)) s ⌝ }
-    ensures { λ z. ⌜ RowsRead (Written (now (starts .entry)) (now (index .entry)) (now (coeff .entry)) (now (cmp .entry)) (now (rhs .entry))) s (floatsOf s (now (w .entry))) (floatsOf s (now (w .exit))) (numbersOf s (now (m .exit))) z ⌝ }
+    ensures { λ z. ⌜ RowsRead (Written (now (starts .entry)) (now (index .entry)) (now (coeff .entry)) (now (cmp .entry)) (now (rhs .entry))) s
+        (floatsOf s (now (w .entry))) (floatsOf s (now (w .exit))) (numbersOf s (now (m .exit))) z ⌝ }
 {
     clear(m, s);
     let mut r = 0;

@@ -1,4 +1,5 @@
-// Integer bounds, rounded variable by variable: they are working and emitted bounds alike.
+// src/presolve/mod.rs of microlp 0.7.0, changed: integer bounds, rounded variable by variable.
+// They are working and emitted bounds alike.
 ghost use mathlib.Core.Path.{_≡_};
 ghost use Prim.Native.Nat.{_<_};
 ghost use lib.ListN.{length};

@@ -1,4 +1,4 @@
-// The start of presolve as one step.
+// src/presolve/mod.rs of microlp 0.7.0, changed: the start of presolve as one step.
 ghost use Prim.Native.Nat.{_+_, _≤_};
 ghost use lib.ListN.{length};
 ghost use Rattle.space.specs.Store.{floatsOf, numbersOf, HoldsF, HoldsN};
@@ -30,7 +30,8 @@ pub fn begin(
 ) -> Step
     requires { ⌜ HoldsF s (now w) × HoldsN s (now m) × (s .vars + 1 + s .terms ≤ length (now adj)) ⌝ }
     requires { ⌜ Given (Handed (now lower) (now upper) (now domain) «int_tol» (now starts) (now index) (now coeff) (now cmp) (now rhs)) s ⌝ }
-    ensures { λ z. ⌜ Begins (Handed (now (lower .entry)) (now (upper .entry)) (now (domain .entry)) «int_tol» (now (starts .entry)) (now (index .entry)) (now (coeff .entry)) (now (cmp .entry)) (now (rhs .entry))) s (floatsOf s (now (w .exit))) (numbersOf s (now (m .exit))) (now (adj .exit)) z ⌝ }
+    ensures { λ z. ⌜ Begins (Handed (now (lower .entry)) (now (upper .entry)) (now (domain .entry)) «int_tol» (now (starts .entry)) (now (index .entry))
+        (now (coeff .entry)) (now (cmp .entry)) (now (rhs .entry))) s (floatsOf s (now (w .exit))) (numbersOf s (now (m .exit))) (now (adj .exit)) z ⌝ }
 {
     if crossed(lower, upper) {
         clear(m, s);

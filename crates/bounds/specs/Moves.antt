@@ -19,7 +19,8 @@ use Rattle.space.specs.declared.Step.the-variants.{Stop, Next}
 use Rattle.space.specs.Store.{Floats, Numbers, put-wlo, put-whi, put-elo, put-ehi}
 use Rattle.formulas.specs.declared.Move.{Move}
 use Rattle.formulas.specs.declared.Move.the-variants as moves
-use Rattle.formulas.specs.Moves.{byMove, upperIntMove, upperRealMove, lowerIntMove, lowerRealMove, upper-int-of, upper-real-of, lower-int-of, lower-real-of, emitsTighter, emittedLower, emittedUpper, emit-bounds-of}
+use Rattle.formulas.specs.Moves.{byMove, upperIntMove, upperRealMove, lowerIntMove, lowerRealMove, upper-int-of, upper-real-of}
+use Rattle.formulas.specs.Moves.{lower-int-of, lower-real-of, emitsTighter, emittedLower, emittedUpper, emit-bounds-of}
 use Rattle.view.specs.Call.{Call}
 use Rattle.view.specs.Shows.{Shows, StepShown}
 use Rattle.view.specs.Inv.{Inv}
@@ -32,7 +33,8 @@ use Rattle.view.specs.Known.{Bounding, bounding-adj}
 use Rattle.view.specs.Bounds.{wlo-acts, whi-acts, elo-acts, ehi-acts, wlo-keeps, whi-keeps, elo-keeps, ehi-keeps, inv-tighten, wlo-is, whi-is, elo-is, ehi-is, went-by, stopped-by}
 
 -- ---- a move, as the slices have it
-move-is : (s : Shape) (F : Model → Work → Step) (T : Model → Work → Work) (mv : Model → Work → Move) → ((M : Model) (w : Work) → Call M s → byMove (mv M w) (next w) (stop (w .counts)) (next (T M w)) ≡ F M w)
+move-is : (s : Shape) (F : Model → Work → Step) (T : Model → Work → Work) (mv : Model → Work → Move)
+    → ((M : Model) (w : Work) → Call M s → byMove (mv M w) (next w) (stop (w .counts)) (next (T M w)) ≡ F M w)
     → (z : Move) (M : Model) (w : Work) → Call M s → mv M w ≡ z → F M w ≡ byMove z (next w) (stop (w .counts)) (next (T M w))
 move-is s F T mv of z M w c e = sym (of M w c) ∙ ap (λ (y : Move). byMove y (next w) (stop (w .counts)) (next (T M w))) e
 
@@ -52,7 +54,8 @@ module _ {P : Model → Type 0} {s : Shape} {f : Floats} {n : Numbers} (F : Mode
 
 -- ---- the four
 -- the tolerance of an emitted bound
-tol-is : (M : Model) (s : Shape) (upper : Bool) (v : ℕ) (w : Work) {x z : Float} → Call M s → x ≡ choose upper (at (w .ehi) v) (at (w .elo) v) → z ≡ boundTolerance (s .feas) x → z ≡ boundTol M w v upper
+tol-is : (M : Model) (s : Shape) (upper : Bool) (v : ℕ) (w : Work) {x z : Float} → Call M s → x ≡ choose upper (at (w .ehi) v) (at (w .elo) v)
+    → z ≡ boundTolerance (s .feas) x → z ≡ boundTol M w v upper
 unfolding boundTol
 tol-is M s upper v w c e g = g ∙ cc (c .feas, e)
 
@@ -71,18 +74,22 @@ workLower v q M w = markTightened M v (withBounds (set (w .wlo) v q) (w .whi) (w
 
 module _ {s : Shape} {adj : List ℕ} {f : Floats} {n : Numbers} (v : ℕ) (q : Float) where
   -- the moves are read off the slices
-  upper-int-reads : {eh wl : Float} {z : Move} → eh ≡ getD (f .ehi) v nan → wl ≡ getD (f .wlo) v nan → z ≡ upperIntMove q eh wl → Reads (Adj adj) s f n z (λ M w. upperIntMove q (at (w .ehi) v) (at (w .wlo) v))
+  upper-int-reads : {eh wl : Float} {z : Move} → eh ≡ getD (f .ehi) v nan → wl ≡ getD (f .wlo) v nan → z ≡ upperIntMove q eh wl → Reads (Adj adj) s f n z
+      (λ M w. upperIntMove q (at (w .ehi) v) (at (w .wlo) v))
   upper-int-reads e₁ e₂ g = record { reads = λ M o k w p c h i. cc (ehi-is v h e₁, wlo-is v h e₂, g) }
 
-  lower-int-reads : {el wh : Float} {z : Move} → el ≡ getD (f .elo) v nan → wh ≡ getD (f .whi) v nan → z ≡ lowerIntMove q el wh → Reads (Adj adj) s f n z (λ M w. lowerIntMove q (at (w .elo) v) (at (w .whi) v))
+  lower-int-reads : {el wh : Float} {z : Move} → el ≡ getD (f .elo) v nan → wh ≡ getD (f .whi) v nan → z ≡ lowerIntMove q el wh → Reads (Adj adj) s f n z
+      (λ M w. lowerIntMove q (at (w .elo) v) (at (w .whi) v))
   lower-int-reads e₁ e₂ g = record { reads = λ M o k w p c h i. cc (elo-is v h e₁, whi-is v h e₂, g) }
 
-  upper-real-reads : {wh wl el tol : Float} {z : Move} → wh ≡ getD (f .whi) v nan → wl ≡ getD (f .wlo) v nan → el ≡ getD (f .elo) v nan → tol ≡ boundTolerance (s .feas) el → z ≡ upperRealMove q wh wl tol
+  upper-real-reads : {wh wl el tol : Float} {z : Move} → wh ≡ getD (f .whi) v nan → wl ≡ getD (f .wlo) v nan → el ≡ getD (f .elo) v nan
+      → tol ≡ boundTolerance (s .feas) el → z ≡ upperRealMove q wh wl tol
       → Reads (Adj adj) s f n z (λ M w. upperRealMove q (at (w .whi) v) (at (w .wlo) v) (boundTol M w v false))
   upper-real-reads {el = el} e₁ e₂ e₃ e₄ g =
       record { reads = λ M o k w p c h i. let t = tol-is M s false v w c (elo-is v h e₃ ∙ sym (no _ _ refl)) e₄ in cc (whi-is v h e₁, wlo-is v h e₂, t, g) }
 
-  lower-real-reads : {wl wh eh tol : Float} {z : Move} → wl ≡ getD (f .wlo) v nan → wh ≡ getD (f .whi) v nan → eh ≡ getD (f .ehi) v nan → tol ≡ boundTolerance (s .feas) eh → z ≡ lowerRealMove q wl wh tol
+  lower-real-reads : {wl wh eh tol : Float} {z : Move} → wl ≡ getD (f .wlo) v nan → wh ≡ getD (f .whi) v nan → eh ≡ getD (f .ehi) v nan
+      → tol ≡ boundTolerance (s .feas) eh → z ≡ lowerRealMove q wl wh tol
       → Reads (Adj adj) s f n z (λ M w. lowerRealMove q (at (w .wlo) v) (at (w .whi) v) (boundTol M w v true))
   lower-real-reads {eh = eh} e₁ e₂ e₃ e₄ g =
       record { reads = λ M o k w p c h i. let t = tol-is M s true v w c (ehi-is v h e₃ ∙ sym (yes _ _ refl)) e₄ in cc (wlo-is v h e₁, whi-is v h e₂, t, g) }
@@ -130,34 +137,39 @@ module _ {s : Shape} {adj : List ℕ} {f : Floats} {n : Numbers} (v : ℕ) (q : 
         move-tighten (λ M. lowerInt M v q) (raiseLower v q) _ (λ M w c. lower-int-of M v w q) (lower-int-reads e₁ e₂ g) e b
 
   -- ---- upper_real
-  module _ {wh wl el tol : Float} {z : Move} (e₁ : wh ≡ getD (f .whi) v nan) (e₂ : wl ≡ getD (f .wlo) v nan) (e₃ : el ≡ getD (f .elo) v nan) (e₄ : tol ≡ boundTolerance (s .feas) el) (g : z ≡ upperRealMove q wh wl tol) where
+  module _ {wh wl el tol : Float} {z : Move} (e₁ : wh ≡ getD (f .whi) v nan) (e₂ : wl ≡ getD (f .wlo) v nan) (e₃ : el ≡ getD (f .elo) v nan)
+      (e₄ : tol ≡ boundTolerance (s .feas) el) (g : z ≡ upperRealMove q wh wl tol) where
     pub upper-real-leave : z ≡ moves.Leave → Tries (Adj adj) s f n f n Next (λ M. upperReal M v q)
     upper-real-leave e = move-leave (λ M. upperReal M v q) (workUpper v q) _ (λ M w c. upper-real-of M v w q (c .params)) (upper-real-reads e₁ e₂ e₃ e₄ g) e
 
     pub upper-real-stop : z ≡ moves.Stop → Tries (Adj adj) s f n f n Stop (λ M. upperReal M v q)
     upper-real-stop e = move-stop (λ M. upperReal M v q) (workUpper v q) _ (λ M w c. upper-real-of M v w q (c .params)) (upper-real-reads e₁ e₂ e₃ e₄ g) e
 
-    pub upper-real-tight : {f′ : Floats} {n′ : Numbers} → z ≡ moves.Tighten → f′ ≡ put-whi v q f → ActsN (Adj adj) s n n′ (λ M. markTightened M v) → Tries (Adj adj) s f n f′ n′ Next (λ M. upperReal M v q)
+    pub upper-real-tight : {f′ : Floats} {n′ : Numbers} → z ≡ moves.Tighten → f′ ≡ put-whi v q f → ActsN (Adj adj) s n n′ (λ M. markTightened M v)
+        → Tries (Adj adj) s f n f′ n′ Next (λ M. upperReal M v q)
     upper-real-tight {f′ = f′} {n′ = n′} e a m =
         let b : Acts (Adj adj) s f n f′ n′ (workUpper v q) = record { does = acts-then (whi-acts a) (whi-keeps v q) (of-numbers m) .does } in
         move-tighten (λ M. upperReal M v q) (workUpper v q) _ (λ M w c. upper-real-of M v w q (c .params)) (upper-real-reads e₁ e₂ e₃ e₄ g) e b
 
   -- ---- lower_real
-  module _ {wl wh eh tol : Float} {z : Move} (e₁ : wl ≡ getD (f .wlo) v nan) (e₂ : wh ≡ getD (f .whi) v nan) (e₃ : eh ≡ getD (f .ehi) v nan) (e₄ : tol ≡ boundTolerance (s .feas) eh) (g : z ≡ lowerRealMove q wl wh tol) where
+  module _ {wl wh eh tol : Float} {z : Move} (e₁ : wl ≡ getD (f .wlo) v nan) (e₂ : wh ≡ getD (f .whi) v nan) (e₃ : eh ≡ getD (f .ehi) v nan)
+      (e₄ : tol ≡ boundTolerance (s .feas) eh) (g : z ≡ lowerRealMove q wl wh tol) where
     pub lower-real-leave : z ≡ moves.Leave → Tries (Adj adj) s f n f n Next (λ M. lowerReal M v q)
     lower-real-leave e = move-leave (λ M. lowerReal M v q) (workLower v q) _ (λ M w c. lower-real-of M v w q (c .params)) (lower-real-reads e₁ e₂ e₃ e₄ g) e
 
     pub lower-real-stop : z ≡ moves.Stop → Tries (Adj adj) s f n f n Stop (λ M. lowerReal M v q)
     lower-real-stop e = move-stop (λ M. lowerReal M v q) (workLower v q) _ (λ M w c. lower-real-of M v w q (c .params)) (lower-real-reads e₁ e₂ e₃ e₄ g) e
 
-    pub lower-real-tight : {f′ : Floats} {n′ : Numbers} → z ≡ moves.Tighten → f′ ≡ put-wlo v q f → ActsN (Adj adj) s n n′ (λ M. markTightened M v) → Tries (Adj adj) s f n f′ n′ Next (λ M. lowerReal M v q)
+    pub lower-real-tight : {f′ : Floats} {n′ : Numbers} → z ≡ moves.Tighten → f′ ≡ put-wlo v q f → ActsN (Adj adj) s n n′ (λ M. markTightened M v)
+        → Tries (Adj adj) s f n f′ n′ Next (λ M. lowerReal M v q)
     lower-real-tight {f′ = f′} {n′ = n′} e a m =
         let b : Acts (Adj adj) s f n f′ n′ (workLower v q) = record { does = acts-then (wlo-acts a) (wlo-keeps v q) (of-numbers m) .does } in
         move-tighten (λ M. lowerReal M v q) (workLower v q) _ (λ M w c. lower-real-of M v w q (c .params)) (lower-real-reads e₁ e₂ e₃ e₄ g) e b
 
 -- ---- tighten_upper and tighten_lower: by the variable's kind
 -- two definitions that agree
-tries-same : {P : Model → Type 0} {s : Shape} {f f′ : Floats} {n n′ : Numbers} {z : code.Step} {F G : Model → Work → Step} → ((M : Model) (w : Work) → P M → Call M s → F M w ≡ G M w) → Tries P s f n f′ n′ z G → Tries P s f n f′ n′ z F
+tries-same : {P : Model → Type 0} {s : Shape} {f f′ : Floats} {n n′ : Numbers} {z : code.Step} {F G : Model → Work → Step}
+    → ((M : Model) (w : Work) → P M → Call M s → F M w ≡ G M w) → Tries P s f n f′ n′ z G → Tries P s f n f′ n′ z F
 tries-same {f′ = f′} {n′ = n′} {z = z} e t =
     record { does = λ M o k w p c h i. subst (λ (y : Step). StepShown M f′ n′ o z y) (sym (e M w p c)) (t .does M o k w p c h i) }
 
@@ -191,26 +203,31 @@ module _ {s : Shape} {domain adj : List ℕ} {f : Floats} {n : Numbers} (v : ℕ
   lower-skip e = record { does = λ M o k w p c h i. went-by (no _ _ e) h }
 
 module _ {s : Shape} {domain adj : List ℕ} {f f′ : Floats} {n n′ : Numbers} {z : code.Step} (v : ℕ) (q relax : Float) where
-  pub upper-whole : {b : Bool} {x : Float} → isFinite q ≡ true → b ≡ intCode (s .mip) (getD domain v 0) → b ≡ true → x ≡ floor (q ⊕ relax) → Tries (Adj adj) s f n f′ n′ z (λ M. upperInt M v x) → Tries (Bounding domain adj) s f n f′ n′ z (λ M. tightenUpper M v q relax)
+  pub upper-whole : {b : Bool} {x : Float} → isFinite q ≡ true → b ≡ intCode (s .mip) (getD domain v 0) → b ≡ true → x ≡ floor (q ⊕ relax)
+      → Tries (Adj adj) s f n f′ n′ z (λ M. upperInt M v x) → Tries (Bounding domain adj) s f n f′ n′ z (λ M. tightenUpper M v q relax)
   unfolding tightenUpper
   upper-whole {x = x} e g b g′ t =
       tries-same (λ M w p c. yes _ _ e ∙ yes _ _ (int-is v c p ∙ sym g ∙ b) ∙ ap (λ (y : Float). upperInt M v y w) (sym g′)) (tries-under bounding-adj t)
 
-  pub lower-whole : {b : Bool} {x : Float} → isFinite q ≡ true → b ≡ intCode (s .mip) (getD domain v 0) → b ≡ true → x ≡ ceil (q ⊖ relax) → Tries (Adj adj) s f n f′ n′ z (λ M. lowerInt M v x) → Tries (Bounding domain adj) s f n f′ n′ z (λ M. tightenLower M v q relax)
+  pub lower-whole : {b : Bool} {x : Float} → isFinite q ≡ true → b ≡ intCode (s .mip) (getD domain v 0) → b ≡ true → x ≡ ceil (q ⊖ relax)
+      → Tries (Adj adj) s f n f′ n′ z (λ M. lowerInt M v x) → Tries (Bounding domain adj) s f n f′ n′ z (λ M. tightenLower M v q relax)
   unfolding tightenLower
   lower-whole {x = x} e g b g′ t =
       tries-same (λ M w p c. yes _ _ e ∙ yes _ _ (int-is v c p ∙ sym g ∙ b) ∙ ap (λ (y : Float). lowerInt M v y w) (sym g′)) (tries-under bounding-adj t)
 
-  pub upper-other : {b : Bool} → isFinite q ≡ true → b ≡ intCode (s .mip) (getD domain v 0) → b ≡ false → Tries (Adj adj) s f n f′ n′ z (λ M. upperReal M v (q ⊕ relax)) → Tries (Bounding domain adj) s f n f′ n′ z (λ M. tightenUpper M v q relax)
+  pub upper-other : {b : Bool} → isFinite q ≡ true → b ≡ intCode (s .mip) (getD domain v 0) → b ≡ false → Tries (Adj adj) s f n f′ n′ z
+      (λ M. upperReal M v (q ⊕ relax)) → Tries (Bounding domain adj) s f n f′ n′ z (λ M. tightenUpper M v q relax)
   unfolding tightenUpper
   upper-other e g b t = tries-same (λ M w p c. yes _ _ e ∙ no _ _ (int-is v c p ∙ sym g ∙ b)) (tries-under bounding-adj t)
 
-  pub lower-other : {b : Bool} → isFinite q ≡ true → b ≡ intCode (s .mip) (getD domain v 0) → b ≡ false → Tries (Adj adj) s f n f′ n′ z (λ M. lowerReal M v (q ⊖ relax)) → Tries (Bounding domain adj) s f n f′ n′ z (λ M. tightenLower M v q relax)
+  pub lower-other : {b : Bool} → isFinite q ≡ true → b ≡ intCode (s .mip) (getD domain v 0) → b ≡ false → Tries (Adj adj) s f n f′ n′ z
+      (λ M. lowerReal M v (q ⊖ relax)) → Tries (Bounding domain adj) s f n f′ n′ z (λ M. tightenLower M v q relax)
   unfolding tightenLower
   lower-other e g b t = tries-same (λ M w p c. yes _ _ e ∙ no _ _ (int-is v c p ∙ sym g ∙ b)) (tries-under bounding-adj t)
 
 -- ---- emit_bounds: the row's variables are marked first, then the four bounds are stored
-all-four : {M : Model} {f f′ : Floats} {n n₀ : Numbers} {o : List ℕ} {w u : Work} (v : ℕ) (x y lo hi : Float) → Shows M f n₀ o w → Shows M f n o u → f′ ≡ put-ehi v hi (put-elo v lo (put-whi v y (put-wlo v x f)))
+all-four : {M : Model} {f f′ : Floats} {n n₀ : Numbers} {o : List ℕ} {w u : Work} (v : ℕ) (x y lo hi : Float) → Shows M f n₀ o w → Shows M f n o u
+    → f′ ≡ put-ehi v hi (put-elo v lo (put-whi v y (put-wlo v x f)))
     → Shows M f′ n o (withBounds (set (w .wlo) v x) (set (w .whi) v y) (set (w .elo) v lo) (set (w .ehi) v hi) u)
 all-four v x y lo hi h g e =
     rw e
@@ -232,19 +249,23 @@ all-four v x y lo hi h g e =
 pub record EmitsFour (v : ℕ) (lo hi : Float) (f f′ : Floats) : Type 0 where
   pub stores : f′ ≡ put-ehi v hi (put-elo v lo (put-whi v (emittedUpper (getD (f .whi) v nan) lo hi) (put-wlo v (emittedLower (getD (f .wlo) v nan) lo hi) f)))
 
-pub emits-four : (v : ℕ) (lo hi : Float) {wl wh x y : Float} {f f₁ f₂ f₃ f₄ : Floats} → wl ≡ getD (f .wlo) v nan → wh ≡ getD (f .whi) v nan → x ≡ emittedLower wl lo hi → f₁ ≡ put-wlo v x f → y ≡ emittedUpper wh lo hi → f₂ ≡ put-whi v y f₁
+pub emits-four : (v : ℕ) (lo hi : Float) {wl wh x y : Float} {f f₁ f₂ f₃ f₄ : Floats} → wl ≡ getD (f .wlo) v nan → wh ≡ getD (f .whi) v nan
+    → x ≡ emittedLower wl lo hi → f₁ ≡ put-wlo v x f → y ≡ emittedUpper wh lo hi → f₂ ≡ put-whi v y f₁
     → f₃ ≡ put-elo v lo f₂ → f₄ ≡ put-ehi v hi f₃ → EmitsFour v lo hi f f₄
 emits-four v lo hi e₁ e₂ x₁ a₁ y₁ a₂ a₃ a₄ = record { stores = rw (a₄, a₃, a₂, a₁, x₁, y₁, e₁, e₂) }
 
 -- the state after, by whether the bounds got tighter
-emit-is : (f : Floats) (n : Numbers) (v : ℕ) (lo hi : Float) {el eh : Float} {b c : Bool} {M : Model} {o : List ℕ} {w : Work} → el ≡ getD (f .elo) v nan → eh ≡ getD (f .ehi) v nan → b ≡ emitsTighter lo hi el eh → Shows M f n o w → b ≡ c → emitBounds M v lo hi w
+emit-is : (f : Floats) (n : Numbers) (v : ℕ) (lo hi : Float) {el eh : Float} {b c : Bool} {M : Model} {o : List ℕ} {w : Work} → el ≡ getD (f .elo) v nan
+    → eh ≡ getD (f .ehi) v nan → b ≡ emitsTighter lo hi el eh → Shows M f n o w → b ≡ c → emitBounds M v lo hi w
     ≡ withBounds (set (w .wlo) v (emittedLower (at (w .wlo) v) lo hi)) (set (w .whi) v (emittedUpper (at (w .whi) v) lo hi)) (set (w .elo) v lo) (set (w .ehi) v hi) (choose c (markTightened M v w) w)
 emit-is f n v lo hi {c = c} {M} {o} {w} e₁ e₂ g h t =
     let z : emitsTighter lo hi (at (w .elo) v) (at (w .ehi) v) ≡ c = cc (elo-is v h e₁, ehi-is v h e₂, g, t) in
     sym (emit-bounds-of M v lo hi w)
-    ∙ ap (λ (a : Bool). withBounds (set (w .wlo) v (emittedLower (at (w .wlo) v) lo hi)) (set (w .whi) v (emittedUpper (at (w .whi) v) lo hi)) (set (w .elo) v lo) (set (w .ehi) v hi) (choose a (markTightened M v w) w)) z
+    ∙ ap (λ (a : Bool). withBounds (set (w .wlo) v (emittedLower (at (w .wlo) v) lo hi)) (set (w .whi) v (emittedUpper (at (w .whi) v) lo hi))
+    (set (w .elo) v lo) (set (w .ehi) v hi) (choose a (markTightened M v w) w)) z
 
-module _ {s : Shape} {adj : List ℕ} {f f′ : Floats} {n : Numbers} (v : ℕ) (lo hi : Float) {el eh : Float} {b : Bool} (e₁ : el ≡ getD (f .elo) v nan) (e₂ : eh ≡ getD (f .ehi) v nan) (g : b ≡ emitsTighter lo hi el eh) where
+module _ {s : Shape} {adj : List ℕ} {f f′ : Floats} {n : Numbers} (v : ℕ) (lo hi : Float) {el eh : Float} {b : Bool} (e₁ : el ≡ getD (f .elo) v nan)
+    (e₂ : eh ≡ getD (f .ehi) v nan) (g : b ≡ emitsTighter lo hi el eh) where
   pub emit-tighter : {n′ : Numbers} → b ≡ true → ActsN (Adj adj) s n n′ (λ M. markTightened M v) → EmitsFour v lo hi f f′ → Acts (Adj adj) s f n f′ n′ (λ M. emitBounds M v lo hi)
   unfolding choose
   emit-tighter {n′} t m a =
@@ -279,7 +300,8 @@ four-keeps v x y a b w u i j =
     }
 
 module _ {M : Model} {k : ℕ} (v : ℕ) (w : Work) (i : Inv M k w) where
-  inv-tight : (a b c d : List Float) → length a ≡ length (M .lower) → length b ≡ length (M .lower) → length c ≡ length (M .lower) → length d ≡ length (M .lower) → Inv M k (markTightened M v (withBounds a b c d w))
+  inv-tight : (a b c d : List Float) → length a ≡ length (M .lower) → length b ≡ length (M .lower) → length c ≡ length (M .lower) → length d ≡ length (M .lower)
+      → Inv M k (markTightened M v (withBounds a b c d w))
   inv-tight a b c d la lb lc ld =
       inv-tighten v (withBounds a b c d w)
       (record { wlos = la; whis = lb; elos = lc; ehis = ld; dirties = i .dirties; coeffDirties = i .coeffDirties; rowses = i .rowses; queue = i .queue; room = i .room; rows = i .rows })

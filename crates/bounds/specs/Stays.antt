@@ -18,7 +18,7 @@ use Rattle.space.specs.Store.{Floats, Numbers}
 use Rattle.formulas.specs.declared.Move.{Move}
 use Rattle.formulas.specs.declared.Move.the-variants.{Leave}
 use Rattle.formulas.specs.Moves.{byMove, upperIntMove, upperRealMove, lowerIntMove, lowerRealMove, upper-int-of, upper-real-of, lower-int-of, lower-real-of}
-use Rattle.formulas.specs.Stays.{UpperStays, LowerStays}
+use Rattle.formulas.specs.Stays.{upperStill, lowerStill, UpperStays, LowerStays}
 use Rattle.view.specs.Call.{Call}
 use Rattle.view.specs.Shows.{Shows}
 use Rattle.view.specs.Lists.{yes, no, either}
@@ -26,8 +26,17 @@ use Rattle.view.specs.Known.{Bounding}
 use Rattle.view.specs.Bounds.{wlo-is, whi-is, elo-is, ehi-is}
 use Rattle.bounds.specs.Moves.{intCode, int-is}
 
+-- the test: q is at or outside the bound that it would move
+unfoldable pub stillAt : List ℕ → Shape → Floats → ℕ → Float → Bool → Bool
+stillAt domain s f v q above =
+    choose above
+    (upperStill (intCode (s .mip) (getD domain v 0)) q (getD (f .ehi) v nan) (getD (f .whi) v nan))
+    (lowerStill (intCode (s .mip) (getD domain v 0)) q (getD (f .elo) v nan) (getD (f .wlo) v nan))
+
+-- and what it is for
 pub record Stays (domain : List ℕ) (s : Shape) (f : Floats) (v : ℕ) (q : Float) (above : Bool) : Type 0 where
-  pub stays : (adj : List ℕ) (M : Model) (n : Numbers) (o : List ℕ) (w : Work) → Bounding domain adj M → Call M s → Shows M f n o w → (t : Float) → Held t → NotNeg t → choose above (tightenUpper M v q t w) (tightenLower M v q t w) ≡ next w
+  pub stays : (adj : List ℕ) (M : Model) (n : Numbers) (o : List ℕ) (w : Work) → Bounding domain adj M → Call M s → Shows M f n o w → (t : Float) → Held t
+      → NotNeg t → choose above (tightenUpper M v q t w) (tightenLower M v q t w) ≡ next w
 
 left-so : {A : Type 0} {m : Move} (x y z : A) → m ≡ Leave → byMove m x y z ≡ x
 unfolding byMove
@@ -76,3 +85,13 @@ module _ {domain : List ℕ} {s : Shape} {f : Floats} {v : ℕ} {q : Float} {int
             (lower-moves M v q t w (c .params) (isInt M v)
             (rw (int-is v c b, ← ei, ← elo-is v h el, ← wlo-is v h wl) (u .leaves t (at (w .whi) v) (boundTol M w v true) ht nt)));
       }
+
+-- the test itself, by the side
+module _ (domain : List ℕ) (s : Shape) (f : Floats) (v : ℕ) (q : Float) {int above z : Bool} (ei : int ≡ intCode (s .mip) (getD domain v 0)) where
+  pub still-above : {ehi whi : Float} → above ≡ true → ehi ≡ getD (f .ehi) v nan → whi ≡ getD (f .whi) v nan → z ≡ upperStill int q ehi whi → z ≡ stillAt domain s f v q above
+  unfolding stillAt
+  still-above a eh wh e = e ∙ rw (ei, eh, wh) (sym (yes _ _ a))
+
+  pub still-below : {elo wlo : Float} → above ≡ false → elo ≡ getD (f .elo) v nan → wlo ≡ getD (f .wlo) v nan → z ≡ lowerStill int q elo wlo → z ≡ stillAt domain s f v q above
+  unfolding stillAt
+  still-below a el wl e = e ∙ rw (ei, el, wl) (sym (no _ _ a))

@@ -1,4 +1,5 @@
-// `fix`, `emit_bounds`, `tighten_upper` and `tighten_lower`: what changes a variable's bounds.
+// `fix`, `emit_bounds`, `tighten_upper` and `tighten_lower` of src/presolve/work.rs of microlp 0.7.0,
+// changed: what changes a variable's bounds.
 ghost use mathlib.Core.Path.{_≡_};
 ghost use mathlib.Core.Bool.{true};
 ghost use Prim.Native.Nat.{_<_};
@@ -10,7 +11,7 @@ ghost use Rattle.view.specs.Adjacency.{Adj};
 ghost use Rattle.view.specs.Known.{Bounding};
 ghost use Rattle.bounds.specs.Flags.{FlagsKept};
 ghost use Rattle.bounds.specs.Moves.{EmitsFour, intCode};
-ghost use Rattle.bounds.specs.Stays.{Stays};
+ghost use Rattle.bounds.specs.Stays.{stillAt, Stays};
 use crate::marks::mark_var;
 use formulas::Move;
 use space::Shape;
@@ -20,7 +21,8 @@ use space::Step;
 pub fn fix_beside(adj: &[usize], w: &mut [f64], m: &mut [usize], s: Shape, v: usize, x: f64)
     requires { ⌜ (v < s .vars) × HoldsF s (now w) × HoldsN s (now m) ⌝ }
     requires { ⌜ Ready (Adj (now adj)) s (floatsOf s (now w)) (numbersOf s (now m)) ⌝ }
-    ensures { λ _. ⌜ Acts (Adj (now (adj .entry))) s (floatsOf s (now (w .entry))) (numbersOf s (now (m .entry))) (floatsOf s (now (w .exit))) (numbersOf s (now (m .exit))) (λ M. definition.fix M v x) ⌝ }
+    ensures { λ _. ⌜ Acts (Adj (now (adj .entry))) s (floatsOf s (now (w .entry))) (numbersOf s (now (m .entry))) (floatsOf s (now (w .exit)))
+        (numbersOf s (now (m .exit))) (λ M. definition.fix M v x) ⌝ }
     ensures { λ _. ⌜ FlagsKept (numbersOf s (now (m .entry))) (numbersOf s (now (m .exit))) ⌝ }
 {
     space::put_wlo(w, s, v, x);
@@ -35,7 +37,8 @@ pub fn fix_beside(adj: &[usize], w: &mut [f64], m: &mut [usize], s: Shape, v: us
 pub fn fix(adj: &[usize], w: &mut [f64], m: &mut [usize], s: Shape, v: usize, x: f64)
     requires { ⌜ (v < s .vars) × HoldsF s (now w) × HoldsN s (now m) ⌝ }
     requires { ⌜ Ready (Adj (now adj)) s (floatsOf s (now w)) (numbersOf s (now m)) ⌝ }
-    ensures { λ _. ⌜ Acts (Adj (now (adj .entry))) s (floatsOf s (now (w .entry))) (numbersOf s (now (m .entry))) (floatsOf s (now (w .exit))) (numbersOf s (now (m .exit))) (λ M. definition.fix M v x) ⌝ }
+    ensures { λ _. ⌜ Acts (Adj (now (adj .entry))) s (floatsOf s (now (w .entry))) (numbersOf s (now (m .entry))) (floatsOf s (now (w .exit)))
+        (numbersOf s (now (m .exit))) (λ M. definition.fix M v x) ⌝ }
 {
     fix_beside(adj, w, m, s, v, x);
 }
@@ -75,7 +78,8 @@ pub fn emit_bounds(
 )
     requires { ⌜ (v < s .vars) × HoldsF s (now w) × HoldsN s (now m) ⌝ }
     requires { ⌜ Ready (Adj (now adj)) s (floatsOf s (now w)) (numbersOf s (now m)) ⌝ }
-    ensures { λ _. ⌜ Acts (Adj (now (adj .entry))) s (floatsOf s (now (w .entry))) (numbersOf s (now (m .entry))) (floatsOf s (now (w .exit))) (numbersOf s (now (m .exit))) (λ M. definition.emitBounds M v lo hi) ⌝ }
+    ensures { λ _. ⌜ Acts (Adj (now (adj .entry))) s (floatsOf s (now (w .entry))) (numbersOf s (now (m .entry))) (floatsOf s (now (w .exit)))
+        (numbersOf s (now (m .exit))) (λ M. definition.emitBounds M v lo hi) ⌝ }
 {
     let elo = space::get_elo(w, s, v);
     let ehi = space::get_ehi(w, s, v);
@@ -91,7 +95,8 @@ pub fn emit_bounds(
 fn upper_int(adj: &[usize], w: &mut [f64], m: &mut [usize], s: Shape, v: usize, q: f64) -> Step
     requires { ⌜ (v < s .vars) × HoldsF s (now w) × HoldsN s (now m) ⌝ }
     requires { ⌜ Ready (Adj (now adj)) s (floatsOf s (now w)) (numbersOf s (now m)) ⌝ }
-    ensures { λ z. ⌜ Tries (Adj (now (adj .entry))) s (floatsOf s (now (w .entry))) (numbersOf s (now (m .entry))) (floatsOf s (now (w .exit))) (numbersOf s (now (m .exit))) z (λ M. definition.upperInt M v q) ⌝ }
+    ensures { λ z. ⌜ Tries (Adj (now (adj .entry))) s (floatsOf s (now (w .entry))) (numbersOf s (now (m .entry))) (floatsOf s (now (w .exit)))
+        (numbersOf s (now (m .exit))) z (λ M. definition.upperInt M v q) ⌝ }
 {
     let ehi = space::get_ehi(w, s, v);
     let wlo = space::get_wlo(w, s, v);
@@ -112,7 +117,8 @@ fn upper_int(adj: &[usize], w: &mut [f64], m: &mut [usize], s: Shape, v: usize, 
 fn lower_int(adj: &[usize], w: &mut [f64], m: &mut [usize], s: Shape, v: usize, q: f64) -> Step
     requires { ⌜ (v < s .vars) × HoldsF s (now w) × HoldsN s (now m) ⌝ }
     requires { ⌜ Ready (Adj (now adj)) s (floatsOf s (now w)) (numbersOf s (now m)) ⌝ }
-    ensures { λ z. ⌜ Tries (Adj (now (adj .entry))) s (floatsOf s (now (w .entry))) (numbersOf s (now (m .entry))) (floatsOf s (now (w .exit))) (numbersOf s (now (m .exit))) z (λ M. definition.lowerInt M v q) ⌝ }
+    ensures { λ z. ⌜ Tries (Adj (now (adj .entry))) s (floatsOf s (now (w .entry))) (numbersOf s (now (m .entry))) (floatsOf s (now (w .exit)))
+        (numbersOf s (now (m .exit))) z (λ M. definition.lowerInt M v q) ⌝ }
 {
     let elo = space::get_elo(w, s, v);
     let whi = space::get_whi(w, s, v);
@@ -133,7 +139,8 @@ fn lower_int(adj: &[usize], w: &mut [f64], m: &mut [usize], s: Shape, v: usize, 
 fn upper_real(adj: &[usize], w: &mut [f64], m: &mut [usize], s: Shape, v: usize, q: f64) -> Step
     requires { ⌜ (v < s .vars) × HoldsF s (now w) × HoldsN s (now m) ⌝ }
     requires { ⌜ Ready (Adj (now adj)) s (floatsOf s (now w)) (numbersOf s (now m)) ⌝ }
-    ensures { λ z. ⌜ Tries (Adj (now (adj .entry))) s (floatsOf s (now (w .entry))) (numbersOf s (now (m .entry))) (floatsOf s (now (w .exit))) (numbersOf s (now (m .exit))) z (λ M. definition.upperReal M v q) ⌝ }
+    ensures { λ z. ⌜ Tries (Adj (now (adj .entry))) s (floatsOf s (now (w .entry))) (numbersOf s (now (m .entry))) (floatsOf s (now (w .exit)))
+        (numbersOf s (now (m .exit))) z (λ M. definition.upperReal M v q) ⌝ }
 {
     let whi = space::get_whi(w, s, v);
     let wlo = space::get_wlo(w, s, v);
@@ -154,7 +161,8 @@ fn upper_real(adj: &[usize], w: &mut [f64], m: &mut [usize], s: Shape, v: usize,
 fn lower_real(adj: &[usize], w: &mut [f64], m: &mut [usize], s: Shape, v: usize, q: f64) -> Step
     requires { ⌜ (v < s .vars) × HoldsF s (now w) × HoldsN s (now m) ⌝ }
     requires { ⌜ Ready (Adj (now adj)) s (floatsOf s (now w)) (numbersOf s (now m)) ⌝ }
-    ensures { λ z. ⌜ Tries (Adj (now (adj .entry))) s (floatsOf s (now (w .entry))) (numbersOf s (now (m .entry))) (floatsOf s (now (w .exit))) (numbersOf s (now (m .exit))) z (λ M. definition.lowerReal M v q) ⌝ }
+    ensures { λ z. ⌜ Tries (Adj (now (adj .entry))) s (floatsOf s (now (w .entry))) (numbersOf s (now (m .entry))) (floatsOf s (now (w .exit)))
+        (numbersOf s (now (m .exit))) z (λ M. definition.lowerReal M v q) ⌝ }
 {
     let wlo = space::get_wlo(w, s, v);
     let whi = space::get_whi(w, s, v);
@@ -172,7 +180,7 @@ fn lower_real(adj: &[usize], w: &mut [f64], m: &mut [usize], s: Shape, v: usize,
 }
 
 // = isInt
-pub fn is_int(domain: &[u8], s: Shape, v: usize) -> bool
+fn is_int(domain: &[u8], s: Shape, v: usize) -> bool
     requires { ⌜ v < length (now domain) ⌝ }
     ensures { λ z. ⌜ z ≡ intCode (s .mip) (getD (now (domain .entry)) v 0) ⌝ }
 {
@@ -195,7 +203,8 @@ pub fn tighten_upper(
 ) -> Step
     requires { ⌜ (v < s .vars) × HoldsF s (now w) × HoldsN s (now m) ⌝ }
     requires { ⌜ Ready (Bounding (now domain) (now adj)) s (floatsOf s (now w)) (numbersOf s (now m)) ⌝ }
-    ensures { λ z. ⌜ Tries (Bounding (now (domain .entry)) (now (adj .entry))) s (floatsOf s (now (w .entry))) (numbersOf s (now (m .entry))) (floatsOf s (now (w .exit))) (numbersOf s (now (m .exit))) z (λ M. definition.tightenUpper M v q relax) ⌝ }
+    ensures { λ z. ⌜ Tries (Bounding (now (domain .entry)) (now (adj .entry))) s (floatsOf s (now (w .entry))) (numbersOf s (now (m .entry)))
+        (floatsOf s (now (w .exit))) (numbersOf s (now (m .exit))) z (λ M. definition.tightenUpper M v q relax) ⌝ }
 {
     if floats::is_finite(q) {
         if is_int(domain, s, v) {
@@ -219,7 +228,8 @@ pub fn tighten_lower(
 ) -> Step
     requires { ⌜ (v < s .vars) × HoldsF s (now w) × HoldsN s (now m) ⌝ }
     requires { ⌜ Ready (Bounding (now domain) (now adj)) s (floatsOf s (now w)) (numbersOf s (now m)) ⌝ }
-    ensures { λ z. ⌜ Tries (Bounding (now (domain .entry)) (now (adj .entry))) s (floatsOf s (now (w .entry))) (numbersOf s (now (m .entry))) (floatsOf s (now (w .exit))) (numbersOf s (now (m .exit))) z (λ M. definition.tightenLower M v q relax) ⌝ }
+    ensures { λ z. ⌜ Tries (Bounding (now (domain .entry)) (now (adj .entry))) s (floatsOf s (now (w .entry))) (numbersOf s (now (m .entry)))
+        (floatsOf s (now (w .exit))) (numbersOf s (now (m .exit))) z (λ M. definition.tightenLower M v q relax) ⌝ }
 {
     if floats::is_finite(q) {
         if is_int(domain, s, v) {
@@ -230,9 +240,11 @@ pub fn tighten_lower(
     Step::Next
 }
 
-// Whether an implied bound q of variable v, from above or from below, leaves it as it is, whatever it is relaxed by.
+// Whether an implied bound q of variable v, from above or from below, is at or outside the bound that it would move. Such a q leaves
+// the variable as it is, whatever it is relaxed by.
 pub fn stays(domain: &[u8], w: &[f64], s: Shape, v: usize, q: f64, above: bool) -> bool
     requires { ⌜ (v < s .vars) × HoldsF s (now w) × (v < length (now domain)) ⌝ }
+    ensures { λ z. ⌜ z ≡ stillAt (now (domain .entry)) s (floatsOf s (now (w .entry))) v q above ⌝ }
     ensures { λ z. ⌜ (z ≡ true → Stays (now (domain .entry)) s (floatsOf s (now (w .entry))) v q above) ⌝ }
 {
     let int = is_int(domain, s, v);

@@ -1,4 +1,4 @@
-// `mark_row` and `mark_var`: requeueing.
+// `mark_row` and `mark_var` of src/presolve/work.rs of microlp 0.7.0, changed: requeueing.
 ghost use Prim.Native.Nat.{_<_, _≤_};
 ghost use lib.ListN.{length};
 ghost use lib.Seq.{slice};
@@ -12,7 +12,7 @@ ghost use Rattle.bounds.specs.Flags.{FlagsKept};
 use space::Shape;
 
 // = markRow
-pub fn mark_row(m: &mut [usize], s: Shape, r: usize)
+fn mark_row(m: &mut [usize], s: Shape, r: usize)
     requires { ⌜ (r < s .rows) × HoldsN s (now m) ⌝ }
     requires { ⌜ ReadyN Any s (numbersOf s (now m)) ⌝ }
     ensures { λ _. ⌜ ActsN Any s (numbersOf s (now (m .entry))) (numbersOf s (now (m .exit))) (λ M. markRow r) ⌝ }
@@ -46,7 +46,7 @@ fn mark_rows(adj: &[usize], m: &mut [usize], s: Shape, a: usize, e: usize)
 }
 
 // = markVar
-pub fn mark_var(adj: &[usize], m: &mut [usize], s: Shape, v: usize)
+pub(crate) fn mark_var(adj: &[usize], m: &mut [usize], s: Shape, v: usize)
     requires { ⌜ (v < s .vars) × HoldsN s (now m) ⌝ }
     requires { ⌜ ReadyN (Adj (now adj)) s (numbersOf s (now m)) ⌝ }
     ensures { λ _. ⌜ ActsN (Adj (now (adj .entry))) s (numbersOf s (now (m .entry))) (numbersOf s (now (m .exit))) (λ M. markVar M v) ⌝ }

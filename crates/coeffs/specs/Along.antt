@@ -30,7 +30,9 @@ module _ {A : Type 0} {P : Model → Type 0} {s : Shape} {f : Floats} {n : Numbe
   along-start e = record { upto = omega arith; rest = λ M o j w p c h i. e M w }
 
   module _ {ss : List ℕ} (q : (M : Model) → P M → Spans ss M) {k : ℕ} {d : A} (p : r < s .rows) (a : Alive n r) (W : Along P s f n r k d G F) {l : ℕ} (el : l ≡ getD (n .len) r 0) where
-    pub along-turn : {v : ℕ} {x : Float} {d′ : A} (step : Model → Work → Term → A → A) → ((M : Model) (w : Work) (d : A) (t : Term) (ts : List Term) → G M w d (t ∷ ts) ≡ G M w (step M w t d) ts) → k < l → v ≡ getD (n .vars) (getD ss r 0 + k) 0
+    pub along-turn : {v : ℕ} {x : Float} {d′ : A} (step : Model → Work → Term → A → A)
+        → ((M : Model) (w : Work) (d : A) (t : Term) (ts : List Term) → G M w d (t ∷ ts) ≡ G M w (step M w t d) ts) → k < l
+        → v ≡ getD (n .vars) (getD ss r 0 + k) 0
         → x ≡ getD (f .coeffs) (getD ss r 0 + k) nan → Reads P s f n d′ (λ M w. step M w (term v x) d) → Along P s f n r (k + 1) d′ G F
     along-turn {v} {x} {d′} step cons kl ev ex t =
         record {
@@ -57,7 +59,8 @@ module _ {A : Type 0} {P : Model → Type 0} {s : Shape} {f : Floats} {n : Numbe
         }
 
 -- what the walk's readers ask for
-module _ {P : Model → Type 0} {s : Shape} {f : Floats} {n : Numbers} {ss : List ℕ} {r k l : ℕ} (R : Ready P s f n) (q : (M : Model) → P M → Spans ss M) (p : r < s .rows) (a : Alive n r) (el : l ≡ getD (n .len) r 0) (kl : k < l) where
+module _ {P : Model → Type 0} {s : Shape} {f : Floats} {n : Numbers} {ss : List ℕ} {r k l : ℕ} (R : Ready P s f n) (q : (M : Model) → P M → Spans ss M)
+    (p : r < s .rows) (a : Alive n r) (el : l ≡ getD (n .len) r 0) (kl : k < l) where
   pub along-place : getD ss r 0 + k < s .terms
   along-place = live-place R q p a (omega (arith, el, kl))
 

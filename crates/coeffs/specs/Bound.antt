@@ -51,7 +51,8 @@ module _ {ss : List ℕ} {s : Shape} {f : Floats} {n : Numbers} (r : ℕ) where
   sum-start = over-start (λ M w. refl)
 
   module _ {k : ℕ} {d : Float} (p : r < s .rows) (a : Alive n r) (W : Over (Spans ss) s f n r k d (sumFrom r) (sumAll r)) {l : ℕ} (el : l ≡ getD (n .binaries) r 0) where
-    pub sum-turn : {v : ℕ} {x y : Float} → k < l → v ≡ getD (n .binary) (getD ss r 0 + k) 0 → Reads (Spans ss) s f n x (λ M w. coeffOf (rowOf w r) v) → y ≡ abs x → Over (Spans ss) s f n r (k + 1) (d ⊕ y) (sumFrom r) (sumAll r)
+    pub sum-turn : {v : ℕ} {x y : Float} → k < l → v ≡ getD (n .binary) (getD ss r 0 + k) 0 → Reads (Spans ss) s f n x (λ M w. coeffOf (rowOf w r) v)
+        → y ≡ abs x → Over (Spans ss) s f n r (k + 1) (d ⊕ y) (sumFrom r) (sumAll r)
     sum-turn {v} kl ev t ey =
         over-turn p a W el (sumStep r) (sum-cons r) (λ M q. q) kl ev
         (record { reads = λ M o j w q c h i. ap (λ (z : Float). d ⊕ abs z) (t .reads M o j w q c h i) ∙ ap (λ (z : Float). d ⊕ z) (sym ey) })
@@ -82,7 +83,8 @@ unfolding from
 from-is M r e = ap (λ (l : List ℕ). getD l r 0) e
 
 module _ {ss is : List ℕ} {cs : List Float} {os : List ℕ} {bs : List Float} {s : Shape} {f : Floats} {n : Numbers} (r : ℕ) (p : r < s .rows) (a : Alive n r) where
-  pub bind-term : (d : CDouble) {k v : ℕ} {e z : CDouble} {x y : Float} → k < getD (n .binaries) r 0 → v ≡ getD (n .binary) (getD ss r 0 + k) 0 → ReadsWritten is cs (getD ss r 0) v x → e ≡ double.plus d (neg x) → Reads (Spans ss) s f n y (λ M w. coeffOf (rowOf w r) v)
+  pub bind-term : (d : CDouble) {k v : ℕ} {e z : CDouble} {x y : Float} → k < getD (n .binaries) r 0 → v ≡ getD (n .binary) (getD ss r 0 + k) 0
+      → ReadsWritten is cs (getD ss r 0) v x → e ≡ double.plus d (neg x) → Reads (Spans ss) s f n y (λ M w. coeffOf (rowOf w r) v)
       → z ≡ double.plus e y → Reads (Written ss is cs os bs) s f n z (λ M w. bindStep r M w (getD (n .binary) (getD ss r 0 + k) 0) d)
   bind-term d {k} {v} {e} {z} {x} {y} l ev t ee u ez =
       record {
@@ -91,7 +93,8 @@ module _ {ss is : List ℕ} {cs : List Float} {os : List ℕ} {bs : List Float} 
             let hv = binary-written c h p a i k v l (ev ∙ ap (λ (m : ℕ). getD (n .binary) (m + k) 0) (sym g)) in
             let tx = t .reads M r (q .index) (q .coeff) g hv in
             let uy = u .reads M o j w (written-spans M q) c h i in
-            ap (λ (m : ℕ). bindStep r M w m d) (sym ev) ∙ ap (λ (m : Float). double.plus (double.plus d (neg m)) (coeffOf (rowOf w r) v)) tx ∙ ap (λ (m : Float). double.plus (double.plus d (neg x)) m) uy ∙ ap (λ (m : CDouble). double.plus m y) (sym ee) ∙ sym ez;
+            ap (λ (m : ℕ). bindStep r M w m d) (sym ev) ∙ ap (λ (m : Float). double.plus (double.plus d (neg m)) (coeffOf (rowOf w r) v)) tx ∙ ap
+            (λ (m : Float). double.plus (double.plus d (neg x)) m) uy ∙ ap (λ (m : CDouble). double.plus m y) (sym ee) ∙ sym ez;
       }
 
 module _ {ss is : List ℕ} {cs : List Float} {os : List ℕ} {bs : List Float} {s : Shape} {f : Floats} {n : Numbers} (r : ℕ) (b : Float) where
@@ -99,7 +102,8 @@ module _ {ss is : List ℕ} {cs : List Float} {os : List ℕ} {bs : List Float} 
   bind-start e = over-start (λ M w. ap (λ (x : CDouble). bindFrom r M w x (binariesOf (rowOf w r .binding))) e)
 
   module _ {k : ℕ} {d : CDouble} (p : r < s .rows) (a : Alive n r) (W : Over (Written ss is cs os bs) s f n r k d (bindFrom r) (bindAll r b)) {l : ℕ} (el : l ≡ getD (n .binaries) r 0) where
-    pub bind-turn : {z : CDouble} → k < l → Reads (Written ss is cs os bs) s f n z (λ M w. bindStep r M w (getD (n .binary) (getD ss r 0 + k) 0) d) → Over (Written ss is cs os bs) s f n r (k + 1) z (bindFrom r) (bindAll r b)
+    pub bind-turn : {z : CDouble} → k < l → Reads (Written ss is cs os bs) s f n z (λ M w. bindStep r M w (getD (n .binary) (getD ss r 0 + k) 0) d)
+        → Over (Written ss is cs os bs) s f n r (k + 1) z (bindFrom r) (bindAll r b)
     bind-turn kl t = over-turn p a W el (bindStep r) (bind-cons r) written-spans kl refl t
 
     pub bind-end : l ≤ k → Reads (Written ss is cs os bs) s f n d (bindAll r b)
@@ -113,7 +117,9 @@ bound-plain M w r e g = ap (boundWith M (rowOf w r) r) e ∙ g
 bound-some : (M : Model) (w : Work) (r : ℕ) (b : Binding) (up : Bool) → rowOf w r .binding ≡ some b → eqb (getD (M .cmp) r 0) 1 ≡ up
     → rewrittenBound M (rowOf w r) r ≡ double.rounded (double.plus (bindingSum M (rowOf w r) r (double.from (at (M .rhs) r)) (b .binaries)) (choose up (b .kept) (neg (b .kept)))) up
 unfolding rewrittenBound boundWith rhsOf opOf
-bound-some M w r b up e g = ap (boundWith M (rowOf w r) r) e ∙ ap (λ (u : Bool). double.rounded (double.plus (bindingSum M (rowOf w r) r (double.from (at (M .rhs) r)) (b .binaries)) (choose u (b .kept) (neg (b .kept)))) u) g
+bound-some M w r b up e g = ap (boundWith M (rowOf w r) r) e ∙ ap
+    (λ (u : Bool). double.rounded (double.plus (bindingSum M (rowOf w r) r (double.from (at (M .rhs) r)) (b .binaries)) (choose u (b .kept) (neg (b .kept)))) u)
+    g
 
 code-is : (x : ℕ) → x ≡ 1 → eqb x 1 ≡ true
 unfolding isOne
@@ -123,13 +129,15 @@ code-not : (x : ℕ) → (x ≡ 1 → ⊥) → eqb x 1 ≡ false
 unfolding isOne
 code-not x e = one-not x e
 
-module _ {ss is : List ℕ} {cs : List Float} {os : List ℕ} {bs : List Float} {s : Shape} {f : Floats} {n : Numbers} (r : ℕ) (p : r < s .rows) (a : Alive n r) {l : ℕ} (el : l ≡ getD (n .binaries) r 0) where
+module _ {ss is : List ℕ} {cs : List Float} {os : List ℕ} {bs : List Float} {s : Shape} {f : Floats} {n : Numbers} (r : ℕ) (p : r < s .rows) (a : Alive n r)
+    {l : ℕ} (el : l ≡ getD (n .binaries) r 0) where
   pub bound-none : l ≡ 0 → Reads (Written ss is cs os bs) s f n (getD bs r nan) (λ M w. rewrittenBound M (rowOf w r) r)
   bound-none z = record { reads = λ M o j w q c h i. bound-plain M w r (unbound-is (row-shown c h p a .binding) (sym el ∙ z)) (ap (λ (y : List Float). getD y r nan) (q .rhs)) }
 
   -- by the side that the row's bound is on
   module _ (ne : l ≡ 0 → ⊥) {d : CDouble} {kept z : Float} (t : Reads (Written ss is cs os bs) s f n d (bindAll r (getD bs r nan))) (ek : kept ≡ getD (f .kept) r nan) where
-    bound-by : (up : Bool) → eqb (getD os r 0) 1 ≡ up → z ≡ double.rounded (double.plus d (choose up kept (neg kept))) up → Reads (Written ss is cs os bs) s f n z (λ M w. rewrittenBound M (rowOf w r) r)
+    bound-by : (up : Bool) → eqb (getD os r 0) 1 ≡ up → z ≡ double.rounded (double.plus d (choose up kept (neg kept))) up
+        → Reads (Written ss is cs os bs) s f n z (λ M w. rewrittenBound M (rowOf w r) r)
     bound-by up eu ez =
         record {
           reads = λ M o j w q c h i.
@@ -137,7 +145,9 @@ module _ {ss is : List ℕ} {cs : List Float} {os : List ℕ} {bs : List Float} 
               let b = y .binding in
               let bk : b .kept ≡ kept = sym (y .shown .kept) ∙ sym ek in
               let bb : bindingSum M (rowOf w r) r (double.from (at (M .rhs) r)) (b .binaries) ≡ d =
-              ap (λ (m : Option Binding). bindingSum M (rowOf w r) r (double.from (at (M .rhs) r)) (binariesOf m)) (sym (y .is)) ∙ ap (λ (m : List Float). bindingSum M (rowOf w r) r (double.from (getD m r nan)) (binariesOf (rowOf w r .binding))) (q .rhs) ∙ t .reads M o j w q c h i in
+              ap (λ (m : Option Binding). bindingSum M (rowOf w r) r (double.from (at (M .rhs) r)) (binariesOf m)) (sym (y .is)) ∙ ap
+              (λ (m : List Float). bindingSum M (rowOf w r) r (double.from (getD m r nan)) (binariesOf (rowOf w r .binding))) (q .rhs)
+              ∙ t .reads M o j w q c h i in
               bound-some M w r b up (y .is) (ap (λ (m : List ℕ). eqb (getD m r 0) 1) (q .cmp) ∙ eu) ∙ cc (bb, bk) ∙ sym ez;
         }
 

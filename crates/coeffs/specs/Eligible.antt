@@ -39,12 +39,14 @@ pub domain-in : {ds ss : List ℕ} {s : Shape} {f : Floats} {n : Numbers} {v : �
 domain-in R p = omega (arith, p, R .call .vars, R .call .domains, ap length (R .known .domain))
 
 -- ---- is_binary
-pub is-binary : {ds : List ℕ} {s : Shape} {f : Floats} (v : ℕ) {i b : Bool} {lo hi : Float} → Tells (Domains ds) i (λ M. isIntDomain M v) → lo ≡ getD (f .elo) v nan → hi ≡ getD (f .ehi) v nan → b ≡ binaryAt i lo hi
+pub is-binary : {ds : List ℕ} {s : Shape} {f : Floats} (v : ℕ) {i b : Bool} {lo hi : Float} → Tells (Domains ds) i (λ M. isIntDomain M v)
+    → lo ≡ getD (f .elo) v nan → hi ≡ getD (f .ehi) v nan → b ≡ binaryAt i lo hi
     → ReadsF (Domains ds) s f b (λ M w. binary M w v)
 is-binary v ti el eh eb = record { reads = λ M n o k w p c h j. sym (binary-of M w v) ∙ cc (ti .tells M p, elo-is v h el, ehi-is v h eh, eb) }
 
 -- ---- rewrite_term: of the variable v with the coefficient a, in a row with the limits x
-pub term-rewrite : {ds : List ℕ} {s : Shape} {f : Floats} (v : ℕ) (form : defs.Form) (nz : Float) (x : Limits) (act : Activity) (a : Float) {b : Bool} {z : defs.Rewrite} → ReadsF (Domains ds) s f b (λ M w. binary M w v)
+pub term-rewrite : {ds : List ℕ} {s : Shape} {f : Floats} (v : ℕ) (form : defs.Form) (nz : Float) (x : Limits) (act : Activity) (a : Float) {b : Bool}
+    {z : defs.Rewrite} → ReadsF (Domains ds) s f b (λ M w. binary M w v)
     → ByParams z (λ M. rewriteAt M b form nz (bare x) act a) → ReadsF (Domains ds) s f z (λ M w. rewriteAt M (binary M w v) form nz (bare x) act a)
 term-rewrite v form nz x act a rb t =
     record { reads = λ M n o k w p c h j. ap (λ (y : Bool). rewriteAt M y form nz (bare x) act a) (rb .reads M n o k w p c h j) ∙ sym (t .of M (c .params)) }
@@ -93,7 +95,8 @@ module _ {ds ss : List ℕ} {s : Shape} {f : Floats} {n : Numbers} (form : defs.
               along-turn binaries-spans p a (C .along) el (countStep form nz act r) (count-cons form nz act r) kl ev ec
               (record {
                 reads = λ M o j w q g h i.
-                    let e : rewriteOf M form nz w (rowOf w r) act (term v c) ≡ y = sym (rewrite-of M form nz w act (term v c) (lim .has M n o w g h a)) ∙ t .reads M n o j w (binaries-domains M q) g h i in
+                    let e : rewriteOf M form nz w (rowOf w r) act (term v c) ≡ y = sym (rewrite-of M form nz w act (term v c) (lim .has M n o w g h a))
+                    ∙ t .reads M n o j w (binaries-domains M q) g h i in
                     ap (λ (m : defs.Rewrite). d + defs.rewrites m) e ∙ ap (λ (m : ℕ). d + m) (sym ez);
               });
         }

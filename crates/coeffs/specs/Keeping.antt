@@ -63,11 +63,13 @@ module _ (us : List Term) (t : Term) where
       (or-true (eqb (x .var) v && not (eq (x .coeff) 0f)) (hasNonzero v (ts ++ us)) h)
 
 -- ---- the binaries of a row whose terms lose no variable that is not zero
-pub binaries-by : {M : Model} {r : ℕ} {x y : Row} → ((v : ℕ) → hasNonzero v (x .terms ++ x .folded) ≡ true → hasNonzero v (y .terms ++ y .folded) ≡ true) → {vs : List ℕ} → BinariesIn M r x vs → BinariesIn M r y vs
+pub binaries-by : {M : Model} {r : ℕ} {x y : Row} → ((v : ℕ) → hasNonzero v (x .terms ++ x .folded) ≡ true → hasNonzero v (y .terms ++ y .folded) ≡ true)
+    → {vs : List ℕ} → BinariesIn M r x vs → BinariesIn M r y vs
 binaries-by k binariesIn[] = binariesIn[]
 binaries-by k (binariesIn∷ {v} h e b) = binariesIn∷ h (k v e) (binaries-by k b)
 
-pub binding-by : {M : Model} {r : ℕ} {x y : Row} → ((v : ℕ) → hasNonzero v (x .terms ++ x .folded) ≡ true → hasNonzero v (y .terms ++ y .folded) ≡ true) → {b : Option Binding} → BindingIn M r x b → BindingIn M r y b
+pub binding-by : {M : Model} {r : ℕ} {x y : Row} → ((v : ℕ) → hasNonzero v (x .terms ++ x .folded) ≡ true → hasNonzero v (y .terms ++ y .folded) ≡ true)
+    → {b : Option Binding} → BindingIn M r x b → BindingIn M r y b
 binding-by k noneIn = noneIn
 binding-by k (someIn b) = someIn (binaries-by k b)
 
@@ -110,7 +112,8 @@ has-later v x vs h = go (eqb x v) (has v vs) h
 pub differ-sym : (u v : ℕ) → eqb v u ≡ false → eqb u v ≡ false
 differ-sym u v e = eqb-differ u v (λ g. true-false (sym (eqb-same v u (sym g)) ∙ e))
 
-pub binaries-snoc : {M : Model} {r : ℕ} {row : Row} {vs : List ℕ} (u : ℕ) → BinariesIn M r row vs → has u vs ≡ false → hasNonzero u (row .terms ++ row .folded) ≡ true → BinariesIn M r row (vs ++ (u ∷ []))
+pub binaries-snoc : {M : Model} {r : ℕ} {row : Row} {vs : List ℕ} (u : ℕ) → BinariesIn M r row vs → has u vs ≡ false → hasNonzero u (row .terms ++ row .folded)
+    ≡ true → BinariesIn M r row (vs ++ (u ∷ []))
 binaries-snoc u binariesIn[] h e = binariesIn∷ h e binariesIn[]
 binaries-snoc u (binariesIn∷ {v} {vs} g d b) h e =
     binariesIn∷ (has-snoc v u vs g (differ-sym u v (has-first u v vs h))) d (binaries-snoc u b (has-later u v vs h) e)
@@ -133,13 +136,15 @@ taken-in mag noneIn = binariesIn[]
 taken-in mag (someIn b) = b
 
 -- the binding that rewriteBinding makes, of a row that holds v's new coefficient
-bound-in : {M : Model} {r : ℕ} (w : Work) (row : Row) (v : ℕ) (a b bp : Float) → hasNonzero v (row .terms ++ row .folded) ≡ true → BindingIn M r row (row .binding) → BinariesIn M r row (rewriteBinding M w row v a b bp .binaries)
+bound-in : {M : Model} {r : ℕ} (w : Work) (row : Row) (v : ℕ) (a b bp : Float) → hasNonzero v (row .terms ++ row .folded) ≡ true
+    → BindingIn M r row (row .binding) → BinariesIn M r row (rewriteBinding M w row v a b bp .binaries)
 unfolding rewriteBinding
 bound-in {M} {r} w row v a b bp h k =
     let old = taken-in (rhsMag row b) k in
     either (BinariesIn M r row) (has v (taken (rhsMag row b) (row .binding) .binaries)) (λ e. old) (λ e. binaries-snoc v old e h)
 
-module _ {M : Model} {r : ℕ} (w : Work) (row : Row) (i v : ℕ) (a na bp : Float) (p : i < length (row .terms)) (e : v ≡ getD (row .terms) i noTerm .var) (z : eq na 0f ≡ false) (n : RowInv M r row) where
+module _ {M : Model} {r : ℕ} (w : Work) (row : Row) (i v : ℕ) (a na bp : Float) (p : i < length (row .terms)) (e : v ≡ getD (row .terms) i noTerm .var)
+    (z : eq na 0f ≡ false) (n : RowInv M r row) where
   pub rebind-inv : (b lo hi : Float) → RowInv M r (withBinding (some (rewriteBinding M w (setCoeff i v na row) v a b bp)) (withRange lo hi (setCoeff i v na row)))
   unfolding setCoeff
   rebind-inv b lo hi =
@@ -157,7 +162,8 @@ module _ {M : Model} {r : ℕ} (w : Work) (row : Row) (i v : ℕ) (a na bp : Flo
   rebound-inv geForm = rebind-inv (row .lo) _ (row .hi)
   rebound-inv noForm = n
 
-pub after-inv : {M : Model} {r : ℕ} (f : Form) (w : Work) (row : Row) (i : ℕ) (x : Rewrite) → i < length (row .terms) → Nonzero x → RowInv M r row → RowInv M r (rowAfter M f w row i (getD (row .terms) i noTerm) x)
+pub after-inv : {M : Model} {r : ℕ} (f : Form) (w : Work) (row : Row) (i : ℕ) (x : Rewrite) → i < length (row .terms) → Nonzero x → RowInv M r row
+    → RowInv M r (rowAfter M f w row i (getD (row .terms) i noTerm) x)
 unfolding rowAfter
 after-inv f w row i keeps p nonzeroKeeps n = n
 after-inv f w row i (coeffOnly na) p (nonzeroCoeff z) n = set-inv row i (getD (row .terms) i noTerm .var) na p refl z n

@@ -23,7 +23,8 @@ use Rattle.readers.specs.Binaries.{binary-place, binary-has}
 use Rattle.folds.specs.Besides.{binariesOf}
 
 -- the binaries as the slices have them
-nth-of : {M : Model} {p : Parts} {r : ℕ} {b : Option Binding} (k v : ℕ) → BindingShown M p r b → k < getD (p .binaries) r 0 → v ≡ getD (p .binary) (from M r + k) 0 → drop k (binariesOf b) ≡ v ∷ drop (suc k) (binariesOf b)
+nth-of : {M : Model} {p : Parts} {r : ℕ} {b : Option Binding} (k v : ℕ) → BindingShown M p r b → k < getD (p .binaries) r 0
+    → v ≡ getD (p .binary) (from M r + k) 0 → drop k (binariesOf b) ≡ v ∷ drop (suc k) (binariesOf b)
 nth-of k v (unbound e) l g = absurd (omega (arith, e, l))
 nth-of k v (isBound {b} h) l g =
     let q : k < length (b .binaries) = omega (arith, l, h .count) in
@@ -48,7 +49,8 @@ module _ {A : Type 0} {P : Model → Type 0} {s : Shape} {f : Floats} {n : Numbe
   over-start e = record { upto = omega arith; rest = λ M o j w p c h i. e M w }
 
   module _ {k : ℕ} {d : A} (p : r < s .rows) (a : Alive n r) (W : Over P s f n r k d G F) {l : ℕ} (el : l ≡ getD (n .binaries) r 0) where
-    pub over-turn : {ss : List ℕ} {v : ℕ} {d′ : A} (step : Model → Work → ℕ → A → A) → ((M : Model) (w : Work) (d : A) (v : ℕ) (vs : List ℕ) → G M w d (v ∷ vs) ≡ G M w (step M w v d) vs) → ((M : Model) → P M → Spans ss M)
+    pub over-turn : {ss : List ℕ} {v : ℕ} {d′ : A} (step : Model → Work → ℕ → A → A)
+        → ((M : Model) (w : Work) (d : A) (v : ℕ) (vs : List ℕ) → G M w d (v ∷ vs) ≡ G M w (step M w v d) vs) → ((M : Model) → P M → Spans ss M)
         → k < l → v ≡ getD (n .binary) (getD ss r 0 + k) 0 → Reads P s f n d′ (λ M w. step M w v d) → Over P s f n r (k + 1) d′ G F
     over-turn {ss} {v} {d′} step cons q kl ev t =
         record {
@@ -57,7 +59,8 @@ module _ {A : Type 0} {P : Model → Type 0} {s : Shape} {f : Floats} {n : Numbe
               let b = rowOf w r .binding in
               let g : v ≡ getD (n .binary) (from M r + k) 0 = ev ∙ ap (λ (y : ℕ). getD (n .binary) (y + k) 0) (sym (from-of M r (q M x .starts))) in
               let e = nth-of k v (row-shown c h p a .binding) (omega (arith, kl, el)) g in
-              ap (λ (y : ℕ). G M w d′ (drop y (binariesOf b))) (add-one k) ∙ ap (λ (y : A). G M w y (drop (suc k) (binariesOf b))) (sym (t .reads M o j w x c h i)) ∙ sym (cons M w d v (drop (suc k) (binariesOf b)))
+              ap (λ (y : ℕ). G M w d′ (drop y (binariesOf b))) (add-one k) ∙ ap (λ (y : A). G M w y (drop (suc k) (binariesOf b)))
+              (sym (t .reads M o j w x c h i)) ∙ sym (cons M w d v (drop (suc k) (binariesOf b)))
               ∙ ap (G M w d) (sym e) ∙ W .rest M o j w x c h i;
         }
 
@@ -71,7 +74,8 @@ module _ {A : Type 0} {P : Model → Type 0} {s : Shape} {f : Floats} {n : Numbe
         }
 
 -- what the walk's readers ask for
-module _ {P : Model → Type 0} {s : Shape} {f : Floats} {n : Numbers} {ss : List ℕ} {r k l : ℕ} (R : Ready P s f n) (q : (M : Model) → P M → Spans ss M) (p : r < s .rows) (a : Alive n r) (el : l ≡ getD (n .binaries) r 0) (kl : k < l) where
+module _ {P : Model → Type 0} {s : Shape} {f : Floats} {n : Numbers} {ss : List ℕ} {r k l : ℕ} (R : Ready P s f n) (q : (M : Model) → P M → Spans ss M)
+    (p : r < s .rows) (a : Alive n r) (el : l ≡ getD (n .binaries) r 0) (kl : k < l) where
   over-from : from (R .model) r ≡ getD ss r 0
   over-from = from-of (R .model) r (q (R .model) (R .known) .starts)
 

@@ -1,4 +1,5 @@
-// The rewritten binaries of a row: the sum of their coefficients, and the bound that the row is emitted with.
+// `rewritten_bound` of src/presolve/work.rs of microlp 0.7.0, changed: the rewritten binaries of a row,
+// the sum of their coefficients, and the bound that the row is emitted with.
 ghost use Prim.Native.Nat.{_+_, _<_};
 ghost use lib.ListN.{getD};
 ghost use Rattle.definition.specs.Bindings.{rewrittenBound};
@@ -45,7 +46,9 @@ fn binding_term(
 ) -> CDouble
     requires { ⌜ (r < s .rows) × HoldsF s (now w) × HoldsN s (now m) × Alive (numbersOf s (now m)) r × (k < getD (numbersOf s (now m) .binaries) r 0) ⌝ }
     requires { ⌜ Ready (Written (now starts) (now index) (now coeff) (now cmp) (now rhs)) s (floatsOf s (now w)) (numbersOf s (now m)) ⌝ }
-    ensures { λ z. ⌜ Reads (Written (now (starts .entry)) (now (index .entry)) (now (coeff .entry)) (now (cmp .entry)) (now (rhs .entry))) s (floatsOf s (now (w .entry))) (numbersOf s (now (m .entry))) z (λ M u. bindStep r M u (getD (numbersOf s (now (m .entry)) .binary) (getD (now (starts .entry)) r 0 + k) 0) d) ⌝ }
+    ensures { λ z. ⌜ Reads (Written (now (starts .entry)) (now (index .entry)) (now (coeff .entry)) (now (cmp .entry)) (now (rhs .entry))) s
+        (floatsOf s (now (w .entry))) (numbersOf s (now (m .entry))) z
+        (λ M u. bindStep r M u (getD (numbersOf s (now (m .entry)) .binary) (getD (now (starts .entry)) r 0 + k) 0) d) ⌝ }
 {
     let a = starts[r];
     let v = space::get_binary(m, s, a + k);
@@ -70,7 +73,8 @@ fn binding_sum(
 ) -> CDouble
     requires { ⌜ (r < s .rows) × HoldsF s (now w) × HoldsN s (now m) × Alive (numbersOf s (now m)) r ⌝ }
     requires { ⌜ Ready (Written (now starts) (now index) (now coeff) (now cmp) (now rhs)) s (floatsOf s (now w)) (numbersOf s (now m)) ⌝ }
-    ensures { λ z. ⌜ Reads (Written (now (starts .entry)) (now (index .entry)) (now (coeff .entry)) (now (cmp .entry)) (now (rhs .entry))) s (floatsOf s (now (w .entry))) (numbersOf s (now (m .entry))) z (bindAll r b) ⌝ }
+    ensures { λ z. ⌜ Reads (Written (now (starts .entry)) (now (index .entry)) (now (coeff .entry)) (now (cmp .entry)) (now (rhs .entry))) s
+        (floatsOf s (now (w .entry))) (numbersOf s (now (m .entry))) z (bindAll r b) ⌝ }
 {
     let n = space::get_binaries(m, s, r);
     let mut d = CDouble::from(b);
@@ -82,7 +86,7 @@ fn binding_sum(
     d
 }
 
-// = rewrittenBound
+// = rewrittenBound, whatever the comparison: an Eq row, which is never rewritten, is taken as a Ge row
 pub fn rewritten_bound(
     starts: &[usize],
     index: &[usize],
@@ -96,7 +100,8 @@ pub fn rewritten_bound(
 ) -> f64
     requires { ⌜ (r < s .rows) × HoldsF s (now w) × HoldsN s (now m) × Alive (numbersOf s (now m)) r ⌝ }
     requires { ⌜ Ready (Written (now starts) (now index) (now coeff) (now cmp) (now rhs)) s (floatsOf s (now w)) (numbersOf s (now m)) ⌝ }
-    ensures { λ z. ⌜ Reads (Written (now (starts .entry)) (now (index .entry)) (now (coeff .entry)) (now (cmp .entry)) (now (rhs .entry))) s (floatsOf s (now (w .entry))) (numbersOf s (now (m .entry))) z (λ M u. rewrittenBound M (rowOf u r) r) ⌝ }
+    ensures { λ z. ⌜ Reads (Written (now (starts .entry)) (now (index .entry)) (now (coeff .entry)) (now (cmp .entry)) (now (rhs .entry))) s
+        (floatsOf s (now (w .entry))) (numbersOf s (now (m .entry))) z (λ M u. rewrittenBound M (rowOf u r) r) ⌝ }
 {
     let n = space::get_binaries(m, s, r);
     let b = rhs[r];

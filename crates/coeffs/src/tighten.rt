@@ -1,4 +1,4 @@
-// `tighten_binary_coeffs`: which terms are eligible.
+// `tighten_binary_coeffs` of src/presolve/work.rs of microlp 0.7.0, changed: which terms are eligible.
 ghost use Prim.Native.Nat.{_<_};
 ghost use lib.ListN.{length};
 ghost use Rattle.definition.specs.Tighten as definition;

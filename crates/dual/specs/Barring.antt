@@ -42,12 +42,14 @@ unfolding blockTerms
 block-append pos neg [] us l = refl
 block-append pos neg (t ∷ ts) us l = block-append pos neg ts us _
 
-block-next : (pos neg : Bool) (cs : List Float) (vs : List ℕ) (a i : ℕ) (l : List Bool) → blockTerms pos neg (term (getD vs (a + i) 0) (at cs (a + i)) ∷ []) (blockTerms pos neg (termsAt cs vs a i) l) ≡ blockTerms pos neg (termsAt cs vs a (i + 1)) l
+block-next : (pos neg : Bool) (cs : List Float) (vs : List ℕ) (a i : ℕ) (l : List Bool) → blockTerms pos neg (term (getD vs (a + i) 0) (at cs (a + i)) ∷ [])
+    (blockTerms pos neg (termsAt cs vs a i) l) ≡ blockTerms pos neg (termsAt cs vs a (i + 1)) l
 unfolding termsAt
 block-next pos neg cs vs a i l = rw add-one (sym (block-append pos neg (termsAt cs vs a i) (term (getD vs (a + i) 0) (at cs (a + i)) ∷ []) l))
 
 -- block_term: of the variable v with the coefficient x
-pub term-bars : (ge le : Bool) {n n₁ n₂ : Numbers} {u v : ℕ} {y x : Float} {b₁ b₂ : Bool} → u ≡ v → y ≡ x → b₁ ≡ blocksAt y ge le → Flags n n₁ (barred b₁ u) (λ l. l) → b₂ ≡ blocksAt y le ge → Flags n₁ n₂ (λ l. l) (barred b₂ u)
+pub term-bars : (ge le : Bool) {n n₁ n₂ : Numbers} {u v : ℕ} {y x : Float} {b₁ b₂ : Bool} → u ≡ v → y ≡ x → b₁ ≡ blocksAt y ge le → Flags n n₁ (barred b₁ u)
+    (λ l. l) → b₂ ≡ blocksAt y le ge → Flags n₁ n₂ (λ l. l) (barred b₂ u)
     → Flags n n₂ (blockTerms ge le (term v x ∷ [])) (blockTerms le ge (term v x ∷ []))
 term-bars ge le {u = u} {y = y} ev ex e₁ a₁ e₂ a₂ =
     flags-same (flags-then a₁ a₂)
@@ -74,7 +76,8 @@ module _ {s : Shape} {a k i : ℕ} {ge le : Bool} {f : Floats} {n₀ n : Numbers
   pub bar-var : TermsBelow s n₀ a k → i < k → getD (n .vars) (a + i) 0 < s .vars
   bar-var h p = rw bar-vars (h .below i p)
 
-  pub bar-turn : {n₁ : Numbers} → i < k → Flags n n₁ (blockTerms ge le (term (getD (n .vars) (a + i) 0) (at (f .coeffs) (a + i)) ∷ [])) (blockTerms le ge (term (getD (n .vars) (a + i) 0) (at (f .coeffs) (a + i)) ∷ []))
+  pub bar-turn : {n₁ : Numbers} → i < k → Flags n n₁ (blockTerms ge le (term (getD (n .vars) (a + i) 0) (at (f .coeffs) (a + i)) ∷ []))
+      (blockTerms le ge (term (getD (n .vars) (a + i) 0) (at (f .coeffs) (a + i)) ∷ []))
       → Barring s a k (i + 1) ge le f n₀ n₁
   bar-turn p t =
       record {
@@ -106,8 +109,10 @@ row-dead ss f r {n} {d} e ne =
     let z : isOne (getD (n .alive) r 0) ≡ false = ap isOne (sym e) ∙ one-not d ne in
     flags-none (λ l. sym (no _ _ z)) (λ l. sym (no _ _ z))
 
-pub row-bars : (ss : List ℕ) (f : Floats) (r : ℕ) {n n′ : Numbers} {d k : ℕ} {lo hi : Float} {ge le : Bool} → d ≡ getD (n .alive) r 0 → d ≡ 1 → k ≡ getD (n .len) r 0 → lo ≡ getD (f .lo) r nan → ge ≡ isFinite lo → hi ≡ getD (f .hi) r nan → le ≡ isFinite hi
-    → Flags n n′ (blockTerms ge le (termsAt (f .coeffs) (n .vars) (getD ss r 0) k)) (blockTerms le ge (termsAt (f .coeffs) (n .vars) (getD ss r 0) k)) → Flags n n′ (fallBars ss f n r) (riseBars ss f n r)
+pub row-bars : (ss : List ℕ) (f : Floats) (r : ℕ) {n n′ : Numbers} {d k : ℕ} {lo hi : Float} {ge le : Bool} → d ≡ getD (n .alive) r 0 → d ≡ 1
+    → k ≡ getD (n .len) r 0 → lo ≡ getD (f .lo) r nan → ge ≡ isFinite lo → hi ≡ getD (f .hi) r nan → le ≡ isFinite hi
+    → Flags n n′ (blockTerms ge le (termsAt (f .coeffs) (n .vars) (getD ss r 0) k)) (blockTerms le ge (termsAt (f .coeffs) (n .vars) (getD ss r 0) k))
+    → Flags n n′ (fallBars ss f n r) (riseBars ss f n r)
 unfolding fallBars riseBars
 row-bars ss f r {n} {d = d} e one ek el eg eh ee a =
     let z : isOne (getD (n .alive) r 0) ≡ true = ap isOne (sym e ∙ one) ∙ one-is in

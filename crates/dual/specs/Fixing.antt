@@ -67,7 +67,8 @@ domain-in R p = omega (arith, p, R .call .vars, R .call .domains, ap length (R .
 abbrev pub staysAt : Model → ℕ → Work → Bool
 staysAt M v w = fixed w v || not (isInt M v)
 
-fixed-is : (v : ℕ) {lo hi : Float} {b : Bool} {M : Model} {f : Floats} {n : Numbers} {o : List ℕ} {w : Work} → lo ≡ getD (f .elo) v nan → hi ≡ getD (f .ehi) v nan → b ≡ fixedAt lo hi → Shows M f n o w → fixed w v ≡ b
+fixed-is : (v : ℕ) {lo hi : Float} {b : Bool} {M : Model} {f : Floats} {n : Numbers} {o : List ℕ} {w : Work} → lo ≡ getD (f .elo) v nan
+    → hi ≡ getD (f .ehi) v nan → b ≡ fixedAt lo hi → Shows M f n o w → fixed w v ≡ b
 fixed-is v {w = w} el eh eb h = sym (fixed-of v w) ∙ cc (elo-is v h el, ehi-is v h eh, eb)
 
 module _ {ds : List ℕ} {s : Shape} {f : Floats} (v : ℕ) {lo hi : Float} {b : Bool} (el : lo ≡ getD (f .elo) v nan) (eh : hi ≡ getD (f .ehi) v nan) (eb : b ≡ fixedAt lo hi) where
@@ -111,7 +112,8 @@ module _ (M : Model) (dec inc : List Bool) (v : ℕ) (w : Work) (changed : Bool)
 
 -- what dualVar gives is shown
 module _ {P : Model → Type 0} {s : Shape} {f f′ : Floats} {n n′ : Numbers} {z : Bool} (F : Model → Work → Work × Bool) (G : Model → Work → Work) where
-  bool-by : ((M : Model) (o : List ℕ) (k : ℕ) (w : Work) → P M → Call M s → Shows M f n o w → Inv M k w → F M w ≡ (G M w, z)) → ((M : Model) (o : List ℕ) (k : ℕ) (w : Work) → P M → Call M s → Shows M f n o w → Inv M k w → Shows M f′ n′ o (G M w)) → ActsBool P s f n f′ n′ z F
+  bool-by : ((M : Model) (o : List ℕ) (k : ℕ) (w : Work) → P M → Call M s → Shows M f n o w → Inv M k w → F M w ≡ (G M w, z))
+      → ((M : Model) (o : List ℕ) (k : ℕ) (w : Work) → P M → Call M s → Shows M f n o w → Inv M k w → Shows M f′ n′ o (G M w)) → ActsBool P s f n f′ n′ z F
   bool-by e a =
       record {
         does = λ M o k w p c h i. subst (λ (y : Work × Bool). Shows M f′ n′ o (y .0)) (sym (e M o k w p c h i)) (a M o k w p c h i);
@@ -138,7 +140,8 @@ module _ {os : List Float} {ds js : List ℕ} {s : Shape} {f : Floats} {n : Numb
         let z : getD (map isOne (n .badDec)) v true ≡ isOne (getD (n .badDec) v 0) = getD-map isOne (n .badDec) v 0 true (omega (arith, p, ld)) in
         sym (may-fall-of v w M (map isOne (n .badDec))) ∙ cc (q .obj, z, h .wlo, eb)
 
-    pub var-falls : {x : Float} {f′ : Floats} {n′ : Numbers} → b ≡ true → x ≡ getD (f .wlo) v nan → Acts (Adj js) s f n f′ n′ (λ M. fix M v x) → ActsBool (Fixing os ds js) s f n f′ n′ true (byFlags n v changed)
+    pub var-falls : {x : Float} {f′ : Floats} {n′ : Numbers} → b ≡ true → x ≡ getD (f .wlo) v nan → Acts (Adj js) s f n f′ n′ (λ M. fix M v x)
+        → ActsBool (Fixing os ds js) s f n f′ n′ true (byFlags n v changed)
     var-falls {x} t ex m =
         bool-by (byFlags n v changed) (λ M w. fix M v x w)
         (λ M o k w q c h i.
@@ -152,7 +155,8 @@ module _ {os : List Float} {ds js : List ℕ} {s : Shape} {f : Floats} {n : Numb
           let z : getD (map isOne (n .badInc)) v true ≡ isOne (getD (n .badInc) v 0) = getD-map isOne (n .badInc) v 0 true (omega (arith, p, li)) in
           sym (may-rise-of v w M (map isOne (n .badInc))) ∙ cc (q .obj, z, h .whi, ed)
 
-      pub var-rises : {x : Float} {f′ : Floats} {n′ : Numbers} → d ≡ true → x ≡ getD (f .whi) v nan → Acts (Adj js) s f n f′ n′ (λ M. fix M v x) → ActsBool (Fixing os ds js) s f n f′ n′ true (byFlags n v changed)
+      pub var-rises : {x : Float} {f′ : Floats} {n′ : Numbers} → d ≡ true → x ≡ getD (f .whi) v nan → Acts (Adj js) s f n f′ n′ (λ M. fix M v x)
+          → ActsBool (Fixing os ds js) s f n f′ n′ true (byFlags n v changed)
       var-rises {x} u ex m =
           bool-by (byFlags n v changed) (λ M w. fix M v x w)
           (λ M o k w q c h i.
@@ -203,7 +207,8 @@ pub record Vars (os : List Float) (ds js : List ℕ) (s : Shape) (v : ℕ) (chan
   pub left : (M : Model) (o : List ℕ) (k : ℕ) (w : Work) → Fixing os ds js M → Call M s → Shows M f₀ n₀ o w → Inv M k w
       → Left M s f n o k (map isOne (n₀ .badDec)) (map isOne (n₀ .badInc)) v changed (dualFrom M (s .vars) (map isOne (n₀ .badDec)) (map isOne (n₀ .badInc)) 0 w false)
 
-from-next : (M : Model) (j i : ℕ) (dec inc : List Bool) (v u : ℕ) (w : Work) (changed : Bool) → i ≡ suc j → u ≡ suc v → dualFrom M j dec inc u (dualVar M dec inc v w changed .0) (dualVar M dec inc v w changed .1) ≡ dualFrom M i dec inc v w changed
+from-next : (M : Model) (j i : ℕ) (dec inc : List Bool) (v u : ℕ) (w : Work) (changed : Bool) → i ≡ suc j → u ≡ suc v
+    → dualFrom M j dec inc u (dualVar M dec inc v w changed .0) (dualVar M dec inc v w changed .1) ≡ dualFrom M i dec inc v w changed
 unfolding dualFrom
 from-next M j i dec inc v u w changed e g = rw (e, g) refl
 
@@ -217,11 +222,17 @@ vars-start {s = s} {n = n} R =
       upto = omega arith;
       ready = R;
       kept = flags-refl;
-      left = λ M o k w p c h i. record { work = w; shows = h; inv = i; rest = ap (λ (j : ℕ). dualFrom M j (map isOne (n .badDec)) (map isOne (n .badInc)) 0 w false) (let z : s .vars - 0 ≡ s .vars = omega arith in z) };
+      left = λ M o k w p c h i. record {
+        work = w;
+        shows = h;
+        inv = i;
+        rest = ap (λ (j : ℕ). dualFrom M j (map isOne (n .badDec)) (map isOne (n .badInc)) 0 w false) (let z : s .vars - 0 ≡ s .vars = omega arith in z);
+      };
     }
 
 module _ {os : List Float} {ds js : List ℕ} {s : Shape} {v : ℕ} {changed : Bool} {f₀ f : Floats} {n₀ n : Numbers} (L : Vars os ds js s v changed f₀ n₀ f n) where
-  pub vars-turn : {f′ : Floats} {n′ : Numbers} {z : Bool} → v < s .vars → ActsBool (Fixing os ds js) s f n f′ n′ z (λ M w. dualVar M (map isOne (n .badDec)) (map isOne (n .badInc)) v w changed) → FlagsKept n n′ → Vars os ds js s (v + 1) z f₀ n₀ f′ n′
+  pub vars-turn : {f′ : Floats} {n′ : Numbers} {z : Bool} → v < s .vars → ActsBool (Fixing os ds js) s f n f′ n′ z
+      (λ M w. dualVar M (map isOne (n .badDec)) (map isOne (n .badInc)) v w changed) → FlagsKept n n′ → Vars os ds js s (v + 1) z f₀ n₀ f′ n′
   vars-turn {z = z} p a y =
       let dec = map isOne (n₀ .badDec) in
       let inc = map isOne (n₀ .badInc) in
@@ -263,7 +274,8 @@ dual-is : (M : Model) (w : Work) → dualFrom M (length (M .lower)) (badDec (w .
 unfolding dualFix
 dual-is M w = refl
 
-pub dual-end : {os : List Float} {ds ss js : List ℕ} {s : Shape} {f f′ : Floats} {n n₁ n₂ n′ : Numbers} {z : Bool} → Flags n n₁ (λ l. noneBad (s .vars)) (λ l. noneBad (s .vars)) → Flags n₁ n₂ (eachRow (fallBars ss f n₁) (s .rows)) (eachRow (riseBars ss f n₁) (s .rows))
+pub dual-end : {os : List Float} {ds ss js : List ℕ} {s : Shape} {f f′ : Floats} {n n₁ n₂ n′ : Numbers} {z : Bool} → Flags n n₁ (λ l. noneBad (s .vars))
+    (λ l. noneBad (s .vars)) → Flags n₁ n₂ (eachRow (fallBars ss f n₁) (s .rows)) (eachRow (riseBars ss f n₁) (s .rows))
     → ActsBool (Fixing os ds js) s f n₂ f′ n′ z (λ M w. dualFrom M (s .vars) (map isOne (n₂ .badDec)) (map isOne (n₂ .badInc)) 0 w false) → ActsBool (Dual os ds ss js) s f n f′ n′ z (λ M. dualFix M)
 dual-end {os} {ds} {ss} {js} {s} {f} {f′} {n} {n₁} {n₂} {n′} {z} a b t =
     record {
@@ -271,10 +283,13 @@ dual-end {os} {ds} {ss} {js} {s} {f} {f′} {n} {n₁} {n₂} {n′} {z} a b t =
       says = λ M o k w p c h i. ap (λ (y : Work × Bool). y .1) (sym (whole M o k w p c h i)) ∙ t .says M o k w (dual-fixing M p) c (shows-flags b (shows-flags a h)) i;
     }
   where
-    whole : (M : Model) (o : List ℕ) (k : ℕ) (w : Work) → Dual os ds ss js M → Call M s → Shows M f n o w → Inv M k w → dualFrom M (s .vars) (map isOne (n₂ .badDec)) (map isOne (n₂ .badInc)) 0 w false ≡ dualFix M w
+    whole : (M : Model) (o : List ℕ) (k : ℕ) (w : Work) → Dual os ds ss js M → Call M s → Shows M f n o w → Inv M k w
+        → dualFrom M (s .vars) (map isOne (n₂ .badDec)) (map isOne (n₂ .badInc)) 0 w false ≡ dualFix M w
     whole M o k w p c h i =
         let g = shows-flags a h in
         let j : s .rows ≡ length (w .rows) = c .rows ∙ sym (i .rowses) in
-        let d : map isOne (n₂ .badDec) ≡ badDec (w .rows) (noneBad (s .vars)) = flags-dec b ∙ ap (eachRow (fallBars ss f n₁) (s .rows)) (flags-dec a) ∙ falls-are g (p .starts) (i .rowses) (s .rows) j (noneBad (s .vars)) in
-        let u : map isOne (n₂ .badInc) ≡ badInc (w .rows) (noneBad (s .vars)) = flags-inc b ∙ ap (eachRow (riseBars ss f n₁) (s .rows)) (flags-inc a) ∙ rises-are g (p .starts) (i .rowses) (s .rows) j (noneBad (s .vars)) in
+        let d : map isOne (n₂ .badDec) ≡ badDec (w .rows) (noneBad (s .vars)) = flags-dec b ∙ ap (eachRow (fallBars ss f n₁) (s .rows)) (flags-dec a)
+        ∙ falls-are g (p .starts) (i .rowses) (s .rows) j (noneBad (s .vars)) in
+        let u : map isOne (n₂ .badInc) ≡ badInc (w .rows) (noneBad (s .vars)) = flags-inc b ∙ ap (eachRow (riseBars ss f n₁) (s .rows)) (flags-inc a)
+        ∙ rises-are g (p .starts) (i .rowses) (s .rows) j (noneBad (s .vars)) in
         rw (d, u, c .vars) (dual-is M w)

@@ -19,7 +19,29 @@ use Rattle.view.specs.Acts.{Ready}
 
 -- the two blocks, replaced
 abbrev pub withBad : List ℕ → List ℕ → Numbers → Numbers
-withBad d i n = record { queued = n .queued; dropped = n .dropped; tightened = n .tightened; fixed = n .fixed; rewrote = n .rewrote; passes = n .passes; dirty = n .dirty; coeffDirty = n .coeffDirty; queue = n .queue; wave = n .wave; len = n .len; folded = n .folded; alive = n .alive; touched = n .touched; binaries = n .binaries; fate = n .fate; slot = n .slot; badDec = d; badInc = i; vars = n .vars; binary = n .binary }
+withBad d i n = record {
+  queued = n .queued;
+  dropped = n .dropped;
+  tightened = n .tightened;
+  fixed = n .fixed;
+  rewrote = n .rewrote;
+  passes = n .passes;
+  dirty = n .dirty;
+  coeffDirty = n .coeffDirty;
+  queue = n .queue;
+  wave = n .wave;
+  len = n .len;
+  folded = n .folded;
+  alive = n .alive;
+  touched = n .touched;
+  binaries = n .binaries;
+  fate = n .fate;
+  slot = n .slot;
+  badDec = d;
+  badInc = i;
+  vars = n .vars;
+  binary = n .binary;
+}
 
 -- F is done to the flags that keep a variable from falling, G to those that keep it from rising, and nothing else
 pub record Flags (n n′ : Numbers) (F G : List Bool → List Bool) : Type 0 where

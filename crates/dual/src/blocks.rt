@@ -1,4 +1,5 @@
-// Which variables the alive rows keep from falling and from rising: flags in the working numbers.
+// `dual_fix` of src/presolve/work.rs of microlp 0.7.0, changed: which variables the alive rows keep
+// from falling and from rising, as flags in the working numbers.
 ghost use mathlib.Core.List.{[], _∷_};
 ghost use Prim.Native.Nat.{_+_, _<_, _≤_};
 ghost use lib.ListN.{getD};
@@ -12,7 +13,7 @@ ghost use Rattle.dual.specs.Barring.{termsAt, TermsBelow, fallBars, rise
 use space::Shape;
 
 // = noneBad, of both lists
-pub fn clear_flags(m: &mut [usize], s: Shape)
+pub(crate) fn clear_flags(m: &mut [usize], s: Shape)
     requires { ⌜ HoldsN s (now m) ⌝ }
     ensures { λ _. ⌜ Flags (numbersOf s (now (m .entry))) (numbersOf s (now (m .exit))) (λ l. noneBad (s .vars)) (λ l. noneBad (s .vars)) ⌝ }
 {
@@ -50,7 +51,9 @@ fn bar_rise(m: &mut [usize], s: Shape, v: usize, b: bool)
 fn block_term(w: &[f64], m: &mut [usize], s: Shape, i: usize, ge: bool, le: bool)
     requires { ⌜ (i < s .terms) × HoldsF s (now w) × HoldsN s (now m) ⌝ }
     requires { ⌜ getD (numbersOf s (now m) .vars) i 0 < s .vars ⌝ }
-    ensures { λ _. ⌜ Flags (numbersOf s (now (m .entry))) (numbersOf s (now (m .exit))) (blockTerms ge le (term (getD (numbersOf s (now (m .entry)) .vars) i 0) (at (floatsOf s (now (w .entry)) .coeffs) i) ∷ [])) (blockTerms le ge (term (getD (numbersOf s (now (m .entry)) .vars) i 0) (at (floatsOf s (now (w .entry)) .coeffs) i) ∷ [])) ⌝ }
+    ensures { λ _. ⌜ Flags (numbersOf s (now (m .entry))) (numbersOf s (now (m .exit)))
+        (blockTerms ge le (term (getD (numbersOf s (now (m .entry)) .vars) i 0) (at (floatsOf s (now (w .entry)) .coeffs) i) ∷ []))
+        (blockTerms le ge (term (getD (numbersOf s (now (m .entry)) .vars) i 0) (at (floatsOf s (now (w .entry)) .coeffs) i) ∷ [])) ⌝ }
 {
     let v = space::get_var(m, s, i);
     let x = space::get_coeff(w, s, i);
@@ -62,7 +65,9 @@ fn block_term(w: &[f64], m: &mut [usize], s: Shape, i: usize, ge: bool, le: bool
 fn block_terms(w: &[f64], m: &mut [usize], s: Shape, a: usize, k: usize, ge: bool, le: bool)
     requires { ⌜ (a + k ≤ s .terms) × HoldsF s (now w) × HoldsN s (now m) ⌝ }
     requires { ⌜ TermsBelow s (numbersOf s (now m)) a k ⌝ }
-    ensures { λ _. ⌜ Flags (numbersOf s (now (m .entry))) (numbersOf s (now (m .exit))) (blockTerms ge le (termsAt (floatsOf s (now (w .entry)) .coeffs) (numbersOf s (now (m .entry)) .vars) a k)) (blockTerms le ge (termsAt (floatsOf s (now (w .entry)) .coeffs) (numbersOf s (now (m .entry)) .vars) a k)) ⌝ }
+    ensures { λ _. ⌜ Flags (numbersOf s (now (m .entry))) (numbersOf s (now (m .exit)))
+        (blockTerms ge le (termsAt (floatsOf s (now (w .entry)) .coeffs) (numbersOf s (now (m .entry)) .vars) a k))
+        (blockTerms le ge (termsAt (floatsOf s (now (w .entry)) .coeffs) (numbersOf s (now (m .entry)) .vars) a k)) ⌝ }
 {
     let mut i = 0;
     while i < k {
@@ -75,7 +80,9 @@ fn block_terms(w: &[f64], m: &mut [usize], s: Shape, a: usize, k: usize, ge: boo
 fn block_row(starts: &[usize], w: &[f64], m: &mut [usize], s: Shape, r: usize)
     requires { ⌜ (r < s .rows) × HoldsF s (now w) × HoldsN s (now m) ⌝ }
     requires { ⌜ Ready (Spans (now starts)) s (floatsOf s (now w)) (numbersOf s (now m)) ⌝ }
-    ensures { λ _. ⌜ Flags (numbersOf s (now (m .entry))) (numbersOf s (now (m .exit))) (fallBars (now (starts .entry)) (floatsOf s (now (w .entry))) (numbersOf s (now (m .entry))) r) (riseBars (now (starts .entry)) (floatsOf s (now (w .entry))) (numbersOf s (now (m .entry))) r) ⌝ }
+    ensures { λ _. ⌜ Flags (numbersOf s (now (m .entry))) (numbersOf s (now (m .exit)))
+        (fallBars (now (starts .entry)) (floatsOf s (now (w .entry))) (numbersOf s (now (m .entry))) r)
+        (riseBars (now (starts .entry)) (floatsOf s (now (w .entry))) (numbersOf s (now (m .entry))) r) ⌝ }
 {
     let alive = space::get_alive(m, s, r);
     if alive == 1 {
@@ -91,10 +98,12 @@ fn block_row(starts: &[usize], w: &[f64], m: &mut [usize], s: Shape, r: usize)
 }
 
 // = badDec and badInc
-pub fn block_rows(starts: &[usize], w: &[f64], m: &mut [usize], s: Shape)
+pub(crate) fn block_rows(starts: &[usize], w: &[f64], m: &mut [usize], s: Shape)
     requires { ⌜ HoldsF s (now w) × HoldsN s (now m) ⌝ }
     requires { ⌜ Ready (Spans (now starts)) s (floatsOf s (now w)) (numbersOf s (now m)) ⌝ }
-    ensures { λ _. ⌜ Flags (numbersOf s (now (m .entry))) (numbersOf s (now (m .exit))) (eachRow (fallBars (now (starts .entry)) (floatsOf s (now (w .entry))) (numbersOf s (now (m .entry)))) (s .rows)) (eachRow (riseBars (now (starts .entry)) (floatsOf s (now (w .entry))) (numbersOf s (now (m .entry)))) (s .rows)) ⌝ }
+    ensures { λ _. ⌜ Flags (numbersOf s (now (m .entry))) (numbersOf s (now (m .exit)))
+        (eachRow (fallBars (now (starts .entry)) (floatsOf s (now (w .entry))) (numbersOf s (now (m .entry)))) (s .rows))
+        (eachRow (riseBars (now (starts .entry)) (floatsOf s (now (w .entry))) (numbersOf s (now (m .entry)))) (s .rows)) ⌝ }
 {
     let mut r = 0;
     while r < s.rows {

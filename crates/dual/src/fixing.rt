@@ -1,4 +1,5 @@
-// `dual_fix`: an integer variable that no row and not the objective keeps from a finite bound is fixed there.
+// `dual_fix` of src/presolve/work.rs of microlp 0.7.0, changed: an integer variable that no row and not
+// the objective keeps from a finite bound is fixed there.
 ghost use mathlib.Core.Path.{_≡_};
 ghost use mathlib.Core.Bool.{false};
 ghost use mathlib.Core.List.{map};
@@ -69,7 +70,9 @@ fn dual_var(
 ) -> bool
     requires { ⌜ (v < s .vars) × HoldsF s (now w) × HoldsN s (now m) ⌝ }
     requires { ⌜ Ready (Fixing (now obj) (now domain) (now adj)) s (floatsOf s (now w)) (numbersOf s (now m)) ⌝ }
-    ensures { λ z. ⌜ ActsBool (Fixing (now (obj .entry)) (now (domain .entry)) (now (adj .entry))) s (floatsOf s (now (w .entry))) (numbersOf s (now (m .entry))) (floatsOf s (now (w .exit))) (numbersOf s (now (m .exit))) z (λ M u. dualVar M (map isOne (numbersOf s (now (m .entry)) .badDec)) (map isOne (numbersOf s (now (m .entry)) .badInc)) v u changed) ⌝ }
+    ensures { λ z. ⌜ ActsBool (Fixing (now (obj .entry)) (now (domain .entry)) (now (adj .entry))) s (floatsOf s (now (w .entry)))
+        (numbersOf s (now (m .entry))) (floatsOf s (now (w .exit))) (numbersOf s (now (m .exit))) z
+        (λ M u. dualVar M (map isOne (numbersOf s (now (m .entry)) .badDec)) (map isOne (numbersOf s (now (m .entry)) .badInc)) v u changed) ⌝ }
     ensures { λ _. ⌜ FlagsKept (numbersOf s (now (m .entry))) (numbersOf s (now (m .exit))) ⌝ }
 {
     if stays(domain, w, s, v) {
@@ -99,7 +102,9 @@ fn dual_vars(
 ) -> bool
     requires { ⌜ HoldsF s (now w) × HoldsN s (now m) ⌝ }
     requires { ⌜ Ready (Fixing (now obj) (now domain) (now adj)) s (floatsOf s (now w)) (numbersOf s (now m)) ⌝ }
-    ensures { λ z. ⌜ ActsBool (Fixing (now (obj .entry)) (now (domain .entry)) (now (adj .entry))) s (floatsOf s (now (w .entry))) (numbersOf s (now (m .entry))) (floatsOf s (now (w .exit))) (numbersOf s (now (m .exit))) z (λ M u. dualFrom M (s .vars) (map isOne (numbersOf s (now (m .entry)) .badDec)) (map isOne (numbersOf s (now (m .entry)) .badInc)) 0 u false) ⌝ }
+    ensures { λ z. ⌜ ActsBool (Fixing (now (obj .entry)) (now (domain .entry)) (now (adj .entry))) s (floatsOf s (now (w .entry)))
+        (numbersOf s (now (m .entry))) (floatsOf s (now (w .exit))) (numbersOf s (now (m .exit))) z
+        (λ M u. dualFrom M (s .vars) (map isOne (numbersOf s (now (m .entry)) .badDec)) (map isOne (numbersOf s (now (m .entry)) .badInc)) 0 u false) ⌝ }
 {
     let mut changed = false;
     let mut v = 0;
@@ -122,7 +127,8 @@ pub fn dual_fix(
 ) -> bool
     requires { ⌜ HoldsF s (now w) × HoldsN s (now m) ⌝ }
     requires { ⌜ Ready (Dual (now obj) (now domain) (now starts) (now adj)) s (floatsOf s (now w)) (numbersOf s (now m)) ⌝ }
-    ensures { λ z. ⌜ ActsBool (Dual (now (obj .entry)) (now (domain .entry)) (now (starts .entry)) (now (adj .entry))) s (floatsOf s (now (w .entry))) (numbersOf s (now (m .entry))) (floatsOf s (now (w .exit))) (numbersOf s (now (m .exit))) z (λ M. dualFix M) ⌝ }
+    ensures { λ z. ⌜ ActsBool (Dual (now (obj .entry)) (now (domain .entry)) (now (starts .entry)) (now (adj .entry))) s (floatsOf s (now (w .entry)))
+        (numbersOf s (now (m .entry))) (floatsOf s (now (w .exit))) (numbersOf s (now (m .exit))) z (λ M. dualFix M) ⌝ }
 {
     clear_flags(m, s);
     block_rows(starts, w, m, s);

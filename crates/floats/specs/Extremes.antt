@@ -1,4 +1,5 @@
--- WHAT abs, smaller, larger AND finite ARE BY VALUE, after IEEE 754-2019 5.5.1, 9.6 and 5.7.2: abs is the size; the larger is one of the two, and below neither; a NaN loses to a number on either side;
+-- WHAT abs, smaller, larger AND finite ARE BY VALUE, after IEEE 754-2019 5.5.1, 9.6 and 5.7.2: abs is the size; the larger is one of the two, and below
+-- neither; a NaN loses to a number on either side;
 -- of two zeros the first stays, whatever their signs (9.6 has -0 below +0). What is finite is a number.
 use mathlib.Core.Path.{_≡_, refl, sym, ap, subst}
 use mathlib.Core.Logic.{_⊎_, inl, inr}

@@ -27,7 +27,8 @@ add-grows {x} {r} n h = go (nonneg-cases h)
     go : Num r ⊎ (r ≡ inf false) → x ≼ (x ⊕ r)
     go (inl m) = record {
       le = ⊑→le x (x ⊕ r) (num-real x n) (sum-result x r n m .real)
-          (sum-above x r n m (rank x) (held-of x (num-real x n)) (subst (λ (z : ℤ). z ⊑ units x +ℤ units r) (sym (rank-num x n)) (more (units x) (units r) (subst (λ (z : ℤ). pos 0 ⊑ z) (rank-num r m) (nonneg-rank h)))));
+          (sum-above x r n m (rank x) (held-of x (num-real x n)) (subst (λ (z : ℤ). z ⊑ units x +ℤ units r) (sym (rank-num x n))
+          (more (units x) (units r) (subst (λ (z : ℤ). pos 0 ⊑ z) (rank-num r m) (nonneg-rank h)))));
     }
     go (inr e) = subst (λ (z : Float). x ≼ z) (sym (ap (λ (t : Float). x ⊕ t) e ∙ num-fin x n false .1)) (top (num-real x n))
 
@@ -40,7 +41,8 @@ sub-shrinks {x} {r} n h = go (nonneg-cases h)
     go : Num r ⊎ (r ≡ inf false) → (x ⊖ r) ≼ x
     go (inl m) = record {
       le = ⊑→le (x ⊖ r) x (sub-result x r n m .real) (num-real x n)
-          (sub-below x r n m (rank x) (held-of x (num-real x n)) (subst (λ (z : ℤ). units x -ℤ units r ⊑ z) (sym (rank-num x n)) (less (units x) (units r) (subst (λ (z : ℤ). pos 0 ⊑ z) (rank-num r m) (nonneg-rank h)))));
+          (sub-below x r n m (rank x) (held-of x (num-real x n)) (subst (λ (z : ℤ). units x -ℤ units r ⊑ z) (sym (rank-num x n))
+          (less (units x) (units r) (subst (λ (z : ℤ). pos 0 ⊑ z) (rank-num r m) (nonneg-rank h)))));
     }
     go (inr e) = subst (λ (z : Float). z ≼ x) (sym (ap (λ (t : Float). x ⊖ t) e ∙ num-minus x n .1)) (bottom (num-real x n))
 

@@ -3,7 +3,8 @@
 use mathlib.Core.Path.{_≡_, refl, sym, ap, _∙_, subst}
 use mathlib.Core.Logic.{_≢_}
 use Prim.Native.Nat.{ℕ, zero, suc, _+_, _-_, _*_, _/_, _^_, _≤_, _<_}
-use native.Mathlib.Nat.{le-refl, le-trans, le-of-eq, le-of-lt, lt-of-le-of-lt, lt-irrefl, zero-mul, mul-pos, mul-le-mul-right, mul-le-mul-left, div-mul-le-self, lt-div-mul-add, le-div-iff-mul-le, add-zero}
+use native.Mathlib.Nat.{le-refl, le-trans, le-of-eq, le-of-lt, lt-of-le-of-lt, lt-irrefl, zero-mul, mul-pos, mul-le-mul-right}
+use native.Mathlib.Nat.{mul-le-mul-left, div-mul-le-self, lt-div-mul-add, le-div-iff-mul-le, add-zero}
 use native.Mathlib.Omega.{arith}
 use mathlib.Core.Bool.{Bool, true, false, not}
 use lib.Dec.{T, leb, leb→le, nleb→lt, lit<, lit≤}
@@ -46,14 +47,16 @@ module _ (a : Float) (w : Whole a) (p : pos 0 ⊏ int a) where
   -- v * a against x, in units of 1.0 on both sides
   pub by-above : (x : Float) → Num x → (v : ℤ) → K.Held v → P v * P (int a) + N (units x) ≤ P (units x) + N v * P (int a) → v ⊑ rank (x ⊘ a)
   by-above x n v h o = quot-above (rank (x ⊘ a)) v (P (units x) * 2 ^ 1074) (N (units x) * 2 ^ 1074) (mags a) (by x n .quot) h
-      (subst (λ (m : ℕ). P v * m + N (units x) * 2 ^ 1074 ≤ P (units x) * 2 ^ 1074 + N v * m) (sym pos-mags) (rows (P v) (N v) (P (units x)) (N (units x)) (P (int a)) (2 ^ 1074) (mul-le-mul-right (2 ^ 1074) o)))
+      (subst (λ (m : ℕ). P v * m + N (units x) * 2 ^ 1074 ≤ P (units x) * 2 ^ 1074 + N v * m) (sym pos-mags)
+      (rows (P v) (N v) (P (units x)) (N (units x)) (P (int a)) (2 ^ 1074) (mul-le-mul-right (2 ^ 1074) o)))
     where
       rows : (pv nv px nx a L : ℕ) → (pv * a + nx) * L ≤ (px + nv * a) * L → pv * (a * L) + nx * L ≤ px * L + nv * (a * L)
       rows pv nv px nx a L h = omega arith
 
   pub by-below : (x : Float) → Num x → (v : ℤ) → K.Held v → P (units x) + N v * P (int a) ≤ P v * P (int a) + N (units x) → rank (x ⊘ a) ⊑ v
   by-below x n v h o = quot-below (rank (x ⊘ a)) v (P (units x) * 2 ^ 1074) (N (units x) * 2 ^ 1074) (mags a) (by x n .quot) h
-      (subst (λ (m : ℕ). P (units x) * 2 ^ 1074 + N v * m ≤ P v * m + N (units x) * 2 ^ 1074) (sym pos-mags) (rows (P v) (N v) (P (units x)) (N (units x)) (P (int a)) (2 ^ 1074) (mul-le-mul-right (2 ^ 1074) o)))
+      (subst (λ (m : ℕ). P (units x) * 2 ^ 1074 + N v * m ≤ P v * m + N (units x) * 2 ^ 1074) (sym pos-mags)
+      (rows (P v) (N v) (P (units x)) (N (units x)) (P (int a)) (2 ^ 1074) (mul-le-mul-right (2 ^ 1074) o)))
     where
       rows : (pv nv px nx a L : ℕ) → (px + nv * a) * L ≤ (pv * a + nx) * L → px * L + nv * (a * L) ≤ pv * (a * L) + nx * L
       rows pv nv px nx a L h = omega arith
@@ -81,7 +84,8 @@ quotient-above {d} {a} {x} wd wa wx p o =
     record {
       le = ⊑→le x (d ⊘ a) (whole-real x wx) (by a wa p d nd .real)
           (by-above a wa p d nd (rank x) (held-of x (whole-real x wx))
-          (scaled-rows (P (rank x)) (N (rank x)) (P (int d)) (N (int d)) (P (int x)) (N (int x)) (P (int a)) L (P (units d)) (N (units d)) (ap P rx ∙ P-sc L (int x)) (ap N rx ∙ N-sc L (int x)) (ap P ud ∙ P-sc L (int d)) (ap N ud ∙ N-sc L (int d))
+          (scaled-rows (P (rank x)) (N (rank x)) (P (int d)) (N (int d)) (P (int x)) (N (int x)) (P (int a)) L (P (units d)) (N (units d))
+          (ap P rx ∙ P-sc L (int x)) (ap N rx ∙ N-sc L (int x)) (ap P ud ∙ P-sc L (int d)) (ap N ud ∙ N-sc L (int d))
           (mul-le-mul-right L (lin (P (int a *ℤ int x)) (N (int a *ℤ int x)) (P (int a) * P (int x)) (P (int a) * N (int x)) (P (int d)) (N (int d)) (times a wa p (int x)) o))));
     }
   where
@@ -97,7 +101,8 @@ quotient-below {d} {a} {x} wd wa wx p o =
     record {
       le = ⊑→le (d ⊘ a) x (by a wa p d nd .real) (whole-real x wx)
           (by-below a wa p d nd (rank x) (held-of x (whole-real x wx))
-          (scaled-rows' (P (rank x)) (N (rank x)) (P (int d)) (N (int d)) (P (int x)) (N (int x)) (P (int a)) L (P (units d)) (N (units d)) (ap P rx ∙ P-sc L (int x)) (ap N rx ∙ N-sc L (int x)) (ap P ud ∙ P-sc L (int d)) (ap N ud ∙ N-sc L (int d))
+          (scaled-rows' (P (rank x)) (N (rank x)) (P (int d)) (N (int d)) (P (int x)) (N (int x)) (P (int a)) L (P (units d)) (N (units d))
+          (ap P rx ∙ P-sc L (int x)) (ap N rx ∙ N-sc L (int x)) (ap P ud ∙ P-sc L (int d)) (ap N ud ∙ N-sc L (int d))
           (mul-le-mul-right L (lin (P (int a *ℤ int x)) (N (int a *ℤ int x)) (P (int a) * P (int x)) (P (int a) * N (int x)) (P (int d)) (N (int d)) (times a wa p (int x)) o))));
     }
   where
@@ -152,25 +157,29 @@ module _ {d a : Float} {t u : ℕ} (bd : Bounded t d) (ba : Bounded u a) (p : in
 
   -- a * x against d, both turned
   pub turn-le : (x : ℤ) → int d ⊑ int a *ℤ x → int (neg a) *ℤ x ⊑ int (neg d)
-  turn-le x o = subst (λ (z : ℤ). z *ℤ x ⊑ int (neg d)) (sym (neg-int a (ba .whole))) (subst (λ (z : ℤ). negℤ (int a) *ℤ x ⊑ z) (sym (neg-int d (bd .whole))) (lin (negℤ (int a) *ℤ x) (int a *ℤ x) (int d) (neg-mul (int a) x) o))
+  turn-le x o = subst (λ (z : ℤ). z *ℤ x ⊑ int (neg d)) (sym (neg-int a (ba .whole)))
+      (subst (λ (z : ℤ). negℤ (int a) *ℤ x ⊑ z) (sym (neg-int d (bd .whole))) (lin (negℤ (int a) *ℤ x) (int a *ℤ x) (int d) (neg-mul (int a) x) o))
     where
       lin : (u v d : ℤ) → P u + P v ≡ N v + N u → d ⊑ v → u ⊑ negℤ d
       lin u v d e h = omega (arith, P-neg d, N-neg d)
 
   pub turn-ge : (x : ℤ) → int a *ℤ x ⊑ int d → int (neg d) ⊑ int (neg a) *ℤ x
-  turn-ge x o = subst (λ (z : ℤ). int (neg d) ⊑ z *ℤ x) (sym (neg-int a (ba .whole))) (subst (λ (z : ℤ). z ⊑ negℤ (int a) *ℤ x) (sym (neg-int d (bd .whole))) (lin (negℤ (int a) *ℤ x) (int a *ℤ x) (int d) (neg-mul (int a) x) o))
+  turn-ge x o = subst (λ (z : ℤ). int (neg d) ⊑ z *ℤ x) (sym (neg-int a (ba .whole)))
+      (subst (λ (z : ℤ). z ⊑ negℤ (int a) *ℤ x) (sym (neg-int d (bd .whole))) (lin (negℤ (int a) *ℤ x) (int a *ℤ x) (int d) (neg-mul (int a) x) o))
     where
       lin : (u v d : ℤ) → P u + P v ≡ N v + N u → v ⊑ d → negℤ d ⊑ u
       lin u v d e h = omega (arith, P-neg d, N-neg d)
 
   pub back-le : (x : ℤ) → int (neg d) ⊑ int (neg a) *ℤ x → int a *ℤ x ⊑ int d
-  back-le x o = lin (negℤ (int a) *ℤ x) (int a *ℤ x) (int d) (neg-mul (int a) x) (subst (λ (z : ℤ). z ⊑ negℤ (int a) *ℤ x) (neg-int d (bd .whole)) (subst (λ (z : ℤ). int (neg d) ⊑ z *ℤ x) (neg-int a (ba .whole)) o))
+  back-le x o = lin (negℤ (int a) *ℤ x) (int a *ℤ x) (int d) (neg-mul (int a) x)
+      (subst (λ (z : ℤ). z ⊑ negℤ (int a) *ℤ x) (neg-int d (bd .whole)) (subst (λ (z : ℤ). int (neg d) ⊑ z *ℤ x) (neg-int a (ba .whole)) o))
     where
       lin : (u v d : ℤ) → P u + P v ≡ N v + N u → negℤ d ⊑ u → v ⊑ d
       lin u v d e h = omega (arith, P-neg d, N-neg d)
 
   pub back-ge : (x : ℤ) → int (neg a) *ℤ x ⊑ int (neg d) → int d ⊑ int a *ℤ x
-  back-ge x o = lin (negℤ (int a) *ℤ x) (int a *ℤ x) (int d) (neg-mul (int a) x) (subst (λ (z : ℤ). negℤ (int a) *ℤ x ⊑ z) (neg-int d (bd .whole)) (subst (λ (z : ℤ). z *ℤ x ⊑ int (neg d)) (neg-int a (ba .whole)) o))
+  back-ge x o = lin (negℤ (int a) *ℤ x) (int a *ℤ x) (int d) (neg-mul (int a) x)
+      (subst (λ (z : ℤ). negℤ (int a) *ℤ x ⊑ z) (neg-int d (bd .whole)) (subst (λ (z : ℤ). z *ℤ x ⊑ int (neg d)) (neg-int a (ba .whole)) o))
     where
       lin : (u v d : ℤ) → P u + P v ≡ N v + N u → u ⊑ negℤ d → d ⊑ v
       lin u v d e h = omega (arith, P-neg d, N-neg d)
@@ -202,9 +211,14 @@ div-num {d} {a} bd wa p =
     let L = 2 ^ 1074 in
     let nd = whole-num d (bd .whole) in
     let size : A (units d) ≤ 2 ^ 53 * L = le-trans (le-of-eq (size-of d ∙ W.size-is d (int d) (to-units d (bd .whole)))) (mul-le-mul-right L (bd .small)) in
-    let hi = by-below a wa p d nd (sc L (pos (2 ^ 53))) (held-scaled (pos (2 ^ 53)) 1074 (lit≤ tt) (lit≤ tt)) (up (P (sc L (pos (2 ^ 53)))) (N (sc L (pos (2 ^ 53)))) (P (units d)) (N (units d)) (P (int a)) (2 ^ 53 * L) (P-sc L (pos (2 ^ 53))) (N-sc L (pos (2 ^ 53)) ∙ zero-mul L) size (pos-P a wa p)) in
-    let lo = by-above a wa p d nd (sc L (negℤ (pos (2 ^ 53)))) (held-scaled (negℤ (pos (2 ^ 53))) 1074 (lit≤ tt) (lit≤ tt)) (dn (P (sc L (negℤ (pos (2 ^ 53))))) (N (sc L (negℤ (pos (2 ^ 53))))) (P (units d)) (N (units d)) (P (int a)) (2 ^ 53 * L) (P-sc L (negℤ (pos (2 ^ 53))) ∙ zero-mul L) (N-sc L (negℤ (pos (2 ^ 53)))) size (pos-P a wa p)) in
-    small-num (d ⊘ a) (2 ^ 53 * L) (by a wa p d nd .real) (within (rank (d ⊘ a)) (sc L (negℤ (pos (2 ^ 53)))) (sc L (pos (2 ^ 53))) (2 ^ 53 * L) (P-sc L (pos (2 ^ 53))) (N-sc L (pos (2 ^ 53)) ∙ zero-mul L) (P-sc L (negℤ (pos (2 ^ 53))) ∙ zero-mul L) (N-sc L (negℤ (pos (2 ^ 53)))) lo hi) (lit< tt)
+    let hi = by-below a wa p d nd (sc L (pos (2 ^ 53))) (held-scaled (pos (2 ^ 53)) 1074 (lit≤ tt) (lit≤ tt))
+    (up (P (sc L (pos (2 ^ 53)))) (N (sc L (pos (2 ^ 53)))) (P (units d)) (N (units d)) (P (int a)) (2 ^ 53 * L) (P-sc L (pos (2 ^ 53)))
+    (N-sc L (pos (2 ^ 53)) ∙ zero-mul L) size (pos-P a wa p)) in
+    let lo = by-above a wa p d nd (sc L (negℤ (pos (2 ^ 53)))) (held-scaled (negℤ (pos (2 ^ 53))) 1074 (lit≤ tt) (lit≤ tt))
+    (dn (P (sc L (negℤ (pos (2 ^ 53))))) (N (sc L (negℤ (pos (2 ^ 53))))) (P (units d)) (N (units d)) (P (int a)) (2 ^ 53 * L)
+    (P-sc L (negℤ (pos (2 ^ 53))) ∙ zero-mul L) (N-sc L (negℤ (pos (2 ^ 53)))) size (pos-P a wa p)) in
+    small-num (d ⊘ a) (2 ^ 53 * L) (by a wa p d nd .real) (within (rank (d ⊘ a)) (sc L (negℤ (pos (2 ^ 53)))) (sc L (pos (2 ^ 53))) (2 ^ 53 * L)
+    (P-sc L (pos (2 ^ 53))) (N-sc L (pos (2 ^ 53)) ∙ zero-mul L) (P-sc L (negℤ (pos (2 ^ 53))) ∙ zero-mul L) (N-sc L (negℤ (pos (2 ^ 53)))) lo hi) (lit< tt)
   where
     up : (pv nv pd nd a t : ℕ) → pv ≡ t → nv ≡ 0 → pd + nd ≤ t → 0 < a → pd + nv * a ≤ pv * a + nd
     up pv nv pd nd a t e f h k = let g : t * 1 ≤ t * a = mul-le-mul-left t k in rw (e, f) (omega (arith, zero-mul a))
@@ -321,7 +335,8 @@ module _ {d a l t : Float} (bd : Bounded (2 ^ 53) d) (ba : Bounded (2 ^ 15) a) (
       at z a h = omega (arith, zero-mul a)
 
   nq' : Num (t ⊘ a)
-  nq' = small-num (t ⊘ a) (3 * (g + 1) * 2 ^ 1039) (by a wa p t nt .real) (at (rank (t ⊘ a)) (3 * (g + 1) * 2 ^ 1039) q-least q-cap) (lt-of-le-of-lt (mul-le-mul-right (2 ^ 1039) (cap g g-most)) (lit< tt))
+  nq' = small-num (t ⊘ a) (3 * (g + 1) * 2 ^ 1039) (by a wa p t nt .real) (at (rank (t ⊘ a)) (3 * (g + 1) * 2 ^ 1039) q-least q-cap)
+      (lt-of-le-of-lt (mul-le-mul-right (2 ^ 1039) (cap g g-most)) (lit< tt))
     where
       at : (z : ℤ) (k : ℕ) → pos 0 ⊑ z → z ⊑ pos k → A z ≤ k
       at z k h l = omega (arith, side z)
@@ -341,29 +356,35 @@ module _ {d a l t : Float} (bd : Bounded (2 ^ 53) d) (ba : Bounded (2 ^ 15) a) (
   -- d past a * l by one: D is past l by g of 2 ^ -32
   past : int a *ℤ int l ⊏ int d → units l +ℤ pos (g * 2 ^ 1042) ⊑ rank (d ⊘ a)
   past o = by-above a wa p d nd (units l +ℤ pos (g * 2 ^ 1042)) (held-more l bl (2 ^ 32) 1042 g refl fine (lit≤ tt))
-      (rows (P (units l +ℤ pos (g * 2 ^ 1042))) (N (units l +ℤ pos (g * 2 ^ 1042))) (P (units l)) (N (units l)) (P (int l)) (N (int l)) (P (int d)) (N (int d)) (P (units d)) (N (units d)) (P (int a)) g (2 ^ 1042) (2 ^ 1074)
-      (add-parts (units l) (pos (g * 2 ^ 1042))) (ap P ul ∙ P-sc (2 ^ 1074) (int l)) (ap N ul ∙ N-sc (2 ^ 1074) (int l)) (ap P (to-units d (bd .whole) .val) ∙ P-sc (2 ^ 1074) (int d)) (ap N (to-units d (bd .whole) .val) ∙ N-sc (2 ^ 1074) (int d))
+      (rows (P (units l +ℤ pos (g * 2 ^ 1042))) (N (units l +ℤ pos (g * 2 ^ 1042))) (P (units l)) (N (units l)) (P (int l)) (N (int l)) (P (int d)) (N (int d))
+      (P (units d)) (N (units d)) (P (int a)) g (2 ^ 1042) (2 ^ 1074)
+      (add-parts (units l) (pos (g * 2 ^ 1042))) (ap P ul ∙ P-sc (2 ^ 1074) (int l)) (ap N ul ∙ N-sc (2 ^ 1074) (int l))
+      (ap P (to-units d (bd .whole) .val) ∙ P-sc (2 ^ 1074) (int d)) (ap N (to-units d (bd .whole) .val) ∙ N-sc (2 ^ 1074) (int d))
       refl (mul-le-mul-right (2 ^ 1042) g-low)
       (mul-le-mul-right (2 ^ 1074) (lin (P (int a *ℤ int l)) (N (int a *ℤ int l)) (P (int a) * P (int l)) (P (int a) * N (int l)) (P (int d)) (N (int d)) (times a wa p (int l)) o)))
     where
       lin : (p n pp nn pd nd : ℕ) → p + nn ≡ n + pp → p + nd < pd + n → pp + nd + 1 ≤ pd + nn
       lin p n pp nn pd nd e h = omega arith
 
-      rows : (pv nv pl nl pz nz pd nd pu nu a g G L : ℕ) → pv + nl + 0 ≡ nv + pl + g * G → pl ≡ pz * L → nl ≡ nz * L → pu ≡ pd * L → nu ≡ nd * L → L ≡ 2 ^ 32 * G → g * a * G ≤ 2 ^ 32 * G → (a * pz + nd + 1) * L ≤ (pd + a * nz) * L → pv * a + nu ≤ pu + nv * a
+      rows : (pv nv pl nl pz nz pd nd pu nu a g G L : ℕ) → pv + nl + 0 ≡ nv + pl + g * G → pl ≡ pz * L → nl ≡ nz * L → pu ≡ pd * L → nu ≡ nd * L
+          → L ≡ 2 ^ 32 * G → g * a * G ≤ 2 ^ 32 * G → (a * pz + nd + 1) * L ≤ (pd + a * nz) * L → pv * a + nu ≤ pu + nv * a
       rows pv nv pl nl pz nz pd nd pu nu a g G L e f h i j k m o = let e' = ap (λ (n : ℕ). n * a) (rw (f, h) at e) in rw (i, j) (omega arith)
 
   -- d short of a * l by one
   short : int d ⊏ int a *ℤ int l → rank (d ⊘ a) ⊑ units l -ℤ pos (g * 2 ^ 1042)
   short o = by-below a wa p d nd (units l -ℤ pos (g * 2 ^ 1042)) (held-less l bl (2 ^ 32) 1042 g refl fine (lit≤ tt))
-      (rows (P (units l -ℤ pos (g * 2 ^ 1042))) (N (units l -ℤ pos (g * 2 ^ 1042))) (P (units l)) (N (units l)) (P (int l)) (N (int l)) (P (int d)) (N (int d)) (P (units d)) (N (units d)) (P (int a)) g (2 ^ 1042) (2 ^ 1074)
-      (sub-parts (units l) (pos (g * 2 ^ 1042))) (ap P ul ∙ P-sc (2 ^ 1074) (int l)) (ap N ul ∙ N-sc (2 ^ 1074) (int l)) (ap P (to-units d (bd .whole) .val) ∙ P-sc (2 ^ 1074) (int d)) (ap N (to-units d (bd .whole) .val) ∙ N-sc (2 ^ 1074) (int d))
+      (rows (P (units l -ℤ pos (g * 2 ^ 1042))) (N (units l -ℤ pos (g * 2 ^ 1042))) (P (units l)) (N (units l)) (P (int l)) (N (int l)) (P (int d)) (N (int d))
+      (P (units d)) (N (units d)) (P (int a)) g (2 ^ 1042) (2 ^ 1074)
+      (sub-parts (units l) (pos (g * 2 ^ 1042))) (ap P ul ∙ P-sc (2 ^ 1074) (int l)) (ap N ul ∙ N-sc (2 ^ 1074) (int l))
+      (ap P (to-units d (bd .whole) .val) ∙ P-sc (2 ^ 1074) (int d)) (ap N (to-units d (bd .whole) .val) ∙ N-sc (2 ^ 1074) (int d))
       refl (mul-le-mul-right (2 ^ 1042) g-low)
       (mul-le-mul-right (2 ^ 1074) (lin (P (int a *ℤ int l)) (N (int a *ℤ int l)) (P (int a) * P (int l)) (P (int a) * N (int l)) (P (int d)) (N (int d)) (times a wa p (int l)) o)))
     where
       lin : (p n pp nn pd nd : ℕ) → p + nn ≡ n + pp → pd + n < p + nd → pd + nn + 1 ≤ pp + nd
       lin p n pp nn pd nd e h = omega arith
 
-      rows : (pv nv pl nl pz nz pd nd pu nu a g G L : ℕ) → pv + nl + g * G ≡ nv + pl + 0 → pl ≡ pz * L → nl ≡ nz * L → pu ≡ pd * L → nu ≡ nd * L → L ≡ 2 ^ 32 * G → g * a * G ≤ 2 ^ 32 * G → (pd + a * nz + 1) * L ≤ (a * pz + nd) * L → pu + nv * a ≤ pv * a + nu
+      rows : (pv nv pl nl pz nz pd nd pu nu a g G L : ℕ) → pv + nl + g * G ≡ nv + pl + 0 → pl ≡ pz * L → nl ≡ nz * L → pu ≡ pd * L → nu ≡ nd * L
+          → L ≡ 2 ^ 32 * G → g * a * G ≤ 2 ^ 32 * G → (pd + a * nz + 1) * L ≤ (a * pz + nd) * L → pu + nv * a ≤ pv * a + nu
       rows pv nv pl nl pz nz pd nd pu nu a g G L e f h i j k m o = let e' = ap (λ (n : ℕ). n * a) (rw (f, h) at e) in rw (i, j) (omega arith)
 
   ab : abs a ≡ a
@@ -384,15 +405,21 @@ module _ {d a l t : Float} (bd : Bounded (2 ^ 53) d) (ba : Bounded (2 ^ 15) a) (
       let w = units l +ℤ pos (1 * 2 ^ 1042) in
       let D = d ⊘ a in
       let q = t ⊘ a in
-      let up : w ⊑ rank (D ⊖ q) = sub-above D q nD nq' w (held-more l bl (2 ^ 32) 1042 1 refl (lit≤ tt) (lit≤ tt)) (room (units l) (units D) (units q) g (2 ^ 1039) (2 ^ 1042) refl g-least (subst (λ (z : ℤ). units l +ℤ pos (g * 2 ^ 1042) ⊑ z) (rank-num D nD) (past c)) (subst (λ (z : ℤ). z ⊑ pos (3 * (g + 1) * 2 ^ 1039)) (rank-num q nq') q-cap)) in
+      let up : w ⊑ rank (D ⊖ q) = sub-above D q nD nq' w (held-more l bl (2 ^ 32) 1042 1 refl (lit≤ tt) (lit≤ tt))
+      (room (units l) (units D) (units q) g (2 ^ 1039) (2 ^ 1042) refl g-least
+      (subst (λ (z : ℤ). units l +ℤ pos (g * 2 ^ 1042) ⊑ z) (rank-num D nD) (past c))
+      (subst (λ (z : ℤ). z ⊑ pos (3 * (g + 1) * 2 ^ 1039)) (rank-num q nq') q-cap)) in
       let le-l = C.le-trans (subst (λ (z : Float). (D ⊖ (t ⊘ z)) ≼ (l ⊖ k)) ab o) (sub-keeps (bl .whole) (record { fits = whole-real l (bl .whole) .fit }) self-le hk) in
       let dn : rank (D ⊖ q) ⊑ rank l = le→⊑ (D ⊖ q) l (sub-result D q nD nq' .real) (whole-real l (bl .whole)) (le-l .le) in
       no (units l) (rank (D ⊖ q)) (1 * 2 ^ 1042) (lit< tt) up (subst (λ (z : ℤ). rank (D ⊖ q) ⊑ z) (rank-num l (whole-num l (bl .whole))) dn))
     where
       room : (l D q : ℤ) (g H G : ℕ) → G ≡ 8 * H → 3 ≤ g → l +ℤ pos (g * G) ⊑ D → q ⊑ pos (3 * (g + 1) * H) → l +ℤ pos (1 * G) ⊑ D -ℤ q
-      room l D q g H G e h k m = let s : 3 * H ≤ g * H = mul-le-mul-right H h in sums (P l) (N l) (P D) (N D) (P q) (N q) (P (l +ℤ pos (g * G))) (N (l +ℤ pos (g * G))) (P (l +ℤ pos (1 * G))) (N (l +ℤ pos (1 * G))) (P (D -ℤ q)) (N (D -ℤ q)) g H G e s (add-parts l (pos (g * G))) (add-parts l (pos (1 * G))) (sub-parts D q) k m
+      room l D q g H G e h k m = let s : 3 * H ≤ g * H = mul-le-mul-right H h in
+          sums (P l) (N l) (P D) (N D) (P q) (N q) (P (l +ℤ pos (g * G))) (N (l +ℤ pos (g * G))) (P (l +ℤ pos (1 * G))) (N (l +ℤ pos (1 * G))) (P (D -ℤ q))
+          (N (D -ℤ q)) g H G e s (add-parts l (pos (g * G))) (add-parts l (pos (1 * G))) (sub-parts D q) k m
         where
-          sums : (pl nl pd nd pq nq pa na pb nb pc nc g H G : ℕ) → G ≡ 8 * H → 3 * H ≤ g * H → pa + nl + 0 ≡ na + pl + g * G → pb + nl + 0 ≡ nb + pl + 1 * G → pc + nd + pq ≡ nc + pd + nq → pa + nd ≤ pd + na → pq + 0 ≤ 3 * (g + 1) * H + nq → pb + nc ≤ pc + nb
+          sums : (pl nl pd nd pq nq pa na pb nb pc nc g H G : ℕ) → G ≡ 8 * H → 3 * H ≤ g * H → pa + nl + 0 ≡ na + pl + g * G → pb + nl + 0 ≡ nb + pl + 1 * G
+              → pc + nd + pq ≡ nc + pd + nq → pa + nd ≤ pd + na → pq + 0 ≤ 3 * (g + 1) * H + nq → pb + nc ≤ pc + nb
           sums pl nl pd nd pq nq pa na pb nb pc nc g H G e s a b c k m = let a' = rw e at a in let b' = rw e at b in omega arith
 
       no : (l r : ℤ) (c : ℕ) → 0 < c → l +ℤ pos c ⊑ r → r ⊑ l → ⊥
@@ -403,15 +430,21 @@ module _ {d a l t : Float} (bd : Bounded (2 ^ 53) d) (ba : Bounded (2 ^ 15) a) (
       let w = units l -ℤ pos (1 * 2 ^ 1042) in
       let D = d ⊘ a in
       let q = t ⊘ a in
-      let dn : rank (D ⊕ q) ⊑ w = sum-below D q nD nq' w (held-less l bl (2 ^ 32) 1042 1 refl (lit≤ tt) (lit≤ tt)) (room (units l) (units D) (units q) g (2 ^ 1039) (2 ^ 1042) refl g-least (subst (λ (z : ℤ). z ⊑ units l -ℤ pos (g * 2 ^ 1042)) (rank-num D nD) (short c)) (subst (λ (z : ℤ). z ⊑ pos (3 * (g + 1) * 2 ^ 1039)) (rank-num q nq') q-cap)) in
+      let dn : rank (D ⊕ q) ⊑ w = sum-below D q nD nq' w (held-less l bl (2 ^ 32) 1042 1 refl (lit≤ tt) (lit≤ tt))
+      (room (units l) (units D) (units q) g (2 ^ 1039) (2 ^ 1042) refl g-least
+      (subst (λ (z : ℤ). z ⊑ units l -ℤ pos (g * 2 ^ 1042)) (rank-num D nD) (short c))
+      (subst (λ (z : ℤ). z ⊑ pos (3 * (g + 1) * 2 ^ 1039)) (rank-num q nq') q-cap)) in
       let le-l = C.le-trans (add-keeps (bl .whole) (record { fits = whole-real l (bl .whole) .fit }) self-le hk) (subst (λ (z : Float). (l ⊕ k) ≼ (D ⊕ (t ⊘ z))) ab o) in
       let up : rank l ⊑ rank (D ⊕ q) = le→⊑ l (D ⊕ q) (whole-real l (bl .whole)) (sum-result D q nD nq' .real) (le-l .le) in
       no (units l) (rank (D ⊕ q)) (1 * 2 ^ 1042) (lit< tt) dn (subst (λ (z : ℤ). z ⊑ rank (D ⊕ q)) (rank-num l (whole-num l (bl .whole))) up))
     where
       room : (l D q : ℤ) (g H G : ℕ) → G ≡ 8 * H → 3 ≤ g → D ⊑ l -ℤ pos (g * G) → q ⊑ pos (3 * (g + 1) * H) → D +ℤ q ⊑ l -ℤ pos (1 * G)
-      room l D q g H G e h k m = let s : 3 * H ≤ g * H = mul-le-mul-right H h in sums (P l) (N l) (P D) (N D) (P q) (N q) (P (l -ℤ pos (g * G))) (N (l -ℤ pos (g * G))) (P (l -ℤ pos (1 * G))) (N (l -ℤ pos (1 * G))) (P (D +ℤ q)) (N (D +ℤ q)) g H G e s (sub-parts l (pos (g * G))) (sub-parts l (pos (1 * G))) (add-parts D q) k m
+      room l D q g H G e h k m = let s : 3 * H ≤ g * H = mul-le-mul-right H h in
+          sums (P l) (N l) (P D) (N D) (P q) (N q) (P (l -ℤ pos (g * G))) (N (l -ℤ pos (g * G))) (P (l -ℤ pos (1 * G))) (N (l -ℤ pos (1 * G))) (P (D +ℤ q))
+          (N (D +ℤ q)) g H G e s (sub-parts l (pos (g * G))) (sub-parts l (pos (1 * G))) (add-parts D q) k m
         where
-          sums : (pl nl pd nd pq nq pa na pb nb pc nc g H G : ℕ) → G ≡ 8 * H → 3 * H ≤ g * H → pa + nl + g * G ≡ na + pl + 0 → pb + nl + 1 * G ≡ nb + pl + 0 → pc + nd + nq ≡ nc + pd + pq → pd + na ≤ pa + nd → pq + 0 ≤ 3 * (g + 1) * H + nq → pc + nb ≤ pb + nc
+          sums : (pl nl pd nd pq nq pa na pb nb pc nc g H G : ℕ) → G ≡ 8 * H → 3 * H ≤ g * H → pa + nl + g * G ≡ na + pl + 0 → pb + nl + 1 * G ≡ nb + pl + 0
+              → pc + nd + nq ≡ nc + pd + pq → pd + na ≤ pa + nd → pq + 0 ≤ 3 * (g + 1) * H + nq → pc + nb ≤ pb + nc
           sums pl nl pd nd pq nq pa na pb nb pc nc g H G e s a b c k m = let a' = rw e at a in let b' = rw e at b in omega arith
 
       no : (l r : ℤ) (c : ℕ) → 0 < c → r ⊑ l -ℤ pos c → l ⊑ r → ⊥

@@ -1,4 +1,5 @@
--- A BOUND THAT WOULD NOT TIGHTEN DOES NOT TIGHTEN EITHER AFTER IT IS RELAXED by something that is not below zero: q plus it is at or above q, q less it is at or below q, and floor and ceil keep the order.
+-- A BOUND THAT WOULD NOT TIGHTEN DOES NOT TIGHTEN EITHER AFTER IT IS RELAXED by something that is not below zero: q plus it is at or above q, q less it is at
+-- or below q, and floor and ceil keep the order.
 -- "Not below zero" is the test's own answer, so a NaN is not below it; where one comes in, the result is a NaN, and no test against that holds.
 use mathlib.Core.Path.{_≡_, refl, sym, ap, _∙_, subst}
 use mathlib.Core.Logic.{_⊎_, inl, inr}
@@ -23,7 +24,8 @@ use Rattle.floats.specs.Ranks.{sub-result, mul-result, round-rank, held-
 use Rattle.floats.specs.Points.{_≼_, Held, of-units, fits-add, fits-sub}
 use Rattle.floats.specs.Growth.{add-grows-real, sub-shrinks-real}
 use Rattle.floats.specs.Compare.{le-trans, le-turns, le-left}
-use Rattle.floats.specs.WholeRounding.{NonNeg, half-parts, zero-rank, zero-held, real-0, real-l, real-r, nonneg-real, nonneg-rank, nonneg-of, nonneg-cases, cases, inf-real, top, bottom, sub-above, floor-keeps, floor-real, ceil-real}
+use Rattle.floats.specs.WholeRounding.{NonNeg, half-parts, zero-rank, zero-held, real-0, real-l, real-r, nonneg-real, nonneg-rank, nonneg-of}
+use Rattle.floats.specs.WholeRounding.{nonneg-cases, cases, inf-real, top, bottom, sub-above, floor-keeps, floor-real, ceil-real}
 use Rattle.floats.specs.Slacks.{nonneg-add, product-most, pos-parts}
 use Rattle.floats.specs.Extremes.{minf-value, no-lt}
 use Rattle.floats.specs.Num.{_⊕_, _⊖_, _⊗_, _⊘_, 0f, ½f, abs, maxf, minf, choose, floor, ceil}
@@ -98,7 +100,9 @@ floor-below : (x : Float) → Num x → floor x ≼ x
 floor-below x n =
     let F = floor-value x n in
     let nf = F .is .num in
-    record { le = ⊑→le (floor x) x (num-real (floor x) nf) (num-real x n) (subst (λ (z : ℤ). z ⊑ rank x) (sym (rank-num (floor x) nf)) (subst (λ (z : ℤ). units (floor x) ⊑ z) (sym (rank-num x n)) (F .low))) }
+    record {
+      le = ⊑→le (floor x) x (num-real (floor x) nf) (num-real x n) (subst (λ (z : ℤ). z ⊑ rank x) (sym (rank-num (floor x) nf)) (subst (λ (z : ℤ). units (floor x) ⊑ z) (sym (rank-num x n)) (F .low)));
+    }
 
 -- nothing else is at or above +∞
 end : (y : Float) → inf false ≼ y → y ≡ inf false
@@ -236,7 +240,9 @@ zero-notneg false = refl
 round-notneg : (s : Bool) (n d : ℕ) → 0 < d → Plus s n → NotNeg (round binary64 s n d)
 round-notneg s n d h k =
     let Q = round-rank s n d in
-    notneg-nonneg (nonneg-of (Q .real) (subst (λ (z : ℤ). pos 0 ⊑ z) (sym (Q .is)) (at s (min (near (n * 2 ^ 1074) d) (2 ^ 2098)) (keep (λ e. e) (λ e. least (near (n * 2 ^ 1074) d) (2 ^ 2098) (rounds e)) k))))
+    notneg-nonneg (nonneg-of (Q .real)
+    (subst (λ (z : ℤ). pos 0 ⊑ z) (sym (Q .is))
+    (at s (min (near (n * 2 ^ 1074) d) (2 ^ 2098)) (keep (λ e. e) (λ e. least (near (n * 2 ^ 1074) d) (2 ^ 2098) (rounds e)) k))))
   where
     at : (s : Bool) (k : ℕ) → Plus s k → pos 0 ⊑ signed s k
     at false k h = zero-le
@@ -293,7 +299,8 @@ notneg-div (fin s m e) (fin t n d) hx ha k = go (eqb n 0) refl (keep (λ f. like
 
     go : (b : Bool) → eqb n 0 ≡ b → Plus (unlike s false) m → NotNeg (cond b (cond (eqb m 0) nan (inf (unlike s false))) (round binary64 (unlike s false) (m * up e * down d) (n * up d * down e)))
     go true f p = inf-or-nan (unlike s false) m p
-    go false f p = round-notneg (unlike s false) (m * up e * down d) (n * up d * down e) (mul-pos (mul-pos (some f) (up-pos d)) (down-pos e)) (keep (λ g. g) (λ g. none (m * up e) (down d) (none m (up e) g)) p)
+    go false f p = round-notneg (unlike s false) (m * up e * down d) (n * up d * down e) (mul-pos (mul-pos (some f) (up-pos d)) (down-pos e))
+        (keep (λ g. g) (λ g. none (m * up e) (down d) (none m (up e) g)) p)
 
 -- ---- t less at most half of it: p is any float, a NaN and the infinities too
 -- what is left of t
@@ -310,7 +317,11 @@ rest t m ht r o = go (nonneg-cases ht) (cases m r)
     no-num n = n .0
 
     go : Num t ⊎ (t ≡ inf false) → Num m ⊎ ((m ≡ inf true) ⊎ (m ≡ inf false)) → NotNeg (t ⊖ m)
-    go (inl n) (inl k) = notneg-nonneg (nonneg-of (sub-result t m n k .real) (sub-above t m n k (pos 0) zero-held (above (units t) (units m) (subst (λ (z : ℤ). z ⊑ units t) (rank-num m k) (subst (λ (z : ℤ). rank m ⊑ z) (rank-num t n) (le→⊑ m t r (num-real t n) (o .le)))))))
+    go (inl n) (inl k) = notneg-nonneg
+        (nonneg-of (sub-result t m n k .real)
+        (sub-above t m n k (pos 0) zero-held
+        (above (units t) (units m) (subst (λ (z : ℤ). z ⊑ units t) (rank-num m k)
+        (subst (λ (z : ℤ). rank m ⊑ z) (rank-num t n) (le→⊑ m t r (num-real t n) (o .le)))))))
     go (inl n) (inr (inl f)) = far (ap (λ (z : Float). t ⊖ z) f ∙ plus-less t n .1)
     go (inl n) (inr (inr f)) = absurd (no-num (subst Num (end t (subst (λ (z : Float). z ≼ t) f o)) n))
     go (inr e) (inl k) = far (ap (λ (z : Float). z ⊖ m) e ∙ plus-less m k .0)
@@ -342,7 +353,8 @@ half t ht = elim (nonneg-cases ht) [
         below = record {
           le = ⊑→le (½f ⊗ t) t f r (subst (λ (z : ℤ). rank (½f ⊗ t) ⊑ z) (sym is)
               (product-most ½f t (P (units t)) (half-parts .num) n (pos-parts ½f (2 ^ 1073) half-parts) l (subst K.Held is (held-of t r))
-              (Nat.le-trans (le-of-eq (ap (λ (z : ℤ). P z * P (units t)) (parts-units ½f false (2 ^ 1073) half-parts))) (Nat.le-trans (mul-le-mul-right (P (units t)) (lit≤ tt)) (le-of-eq (mul-comm (2 ^ 1074) (P (units t))))))));
+              (Nat.le-trans (le-of-eq (ap (λ (z : ℤ). P z * P (units t)) (parts-units ½f false (2 ^ 1073) half-parts)))
+              (Nat.le-trans (mul-le-mul-right (P (units t)) (lit≤ tt)) (le-of-eq (mul-comm (2 ^ 1074) (P (units t))))))));
         };
       }
   | inr e ↦ subst (λ (z : Float). Within z (½f ⊗ z)) (sym e) (subst (Within (inf false)) (sym far) (record { real = inf-real false; below = top (inf-real false) }))

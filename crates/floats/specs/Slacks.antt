@@ -19,7 +19,8 @@ use Rattle.floats.specs.Meaning.{maxf-first, maxf-second}
 use Rattle.floats.specs.Ranks as K
 use Rattle.floats.specs.Ranks.{quot-above, quot-below, sum-result, sub-result, mul-result, held-of}
 use Rattle.floats.specs.Points.{int, Whole, Held, Bounded, to-units, whole-num, units-fin}
-use Rattle.floats.specs.WholeRounding.{⅜f, NonNeg, Tol, zero-rank, real-0, nonneg-real, nonneg-rank, nonneg-of, tol-real, tol-of, tol-num, tol-most, tol-least, inf-real, nonneg-cases, num-fin, inf-inf, top, zero-held, link, sum-above, sub-below, eighths}
+use Rattle.floats.specs.WholeRounding.{⅜f, NonNeg, Tol, zero-rank, real-0, nonneg-real, nonneg-rank, nonneg-of, tol-real, tol-of, tol-num, tol-most}
+use Rattle.floats.specs.WholeRounding.{tol-least, inf-real, nonneg-cases, num-fin, inf-inf, top, zero-held, link, sum-above, sub-below, eighths}
 use Rattle.floats.specs.Quotients.{pos-units, pos-size, by, by-above}
 use Rattle.floats.specs.Num.{_⊕_, _⊖_, _⊗_, _⊘_, 0f, maxf}
 
@@ -30,7 +31,9 @@ pub nonneg-add : {x y : Float} → NonNeg x → NonNeg y → NonNeg (x ⊕ y)
 nonneg-add {x} {y} a b = go (nonneg-cases a) (nonneg-cases b)
   where
     go : Num x ⊎ (x ≡ inf false) → Num y ⊎ (y ≡ inf false) → NonNeg (x ⊕ y)
-    go (inl n) (inl m) = nonneg-of (sum-result x y n m .real) (sum-above x y n m (pos 0) zero-held (both (units x) (units y) (subst (λ (z : ℤ). pos 0 ⊑ z) (rank-num x n) (nonneg-rank a)) (subst (λ (z : ℤ). pos 0 ⊑ z) (rank-num y m) (nonneg-rank b))))
+    go (inl n) (inl m) = nonneg-of (sum-result x y n m .real)
+        (sum-above x y n m (pos 0) zero-held (both (units x) (units y) (subst (λ (z : ℤ). pos 0 ⊑ z) (rank-num x n) (nonneg-rank a))
+        (subst (λ (z : ℤ). pos 0 ⊑ z) (rank-num y m) (nonneg-rank b))))
       where
         both : (u v : ℤ) → pos 0 ⊑ u → pos 0 ⊑ v → pos 0 ⊑ u +ℤ v
         both u v h k = omega (arith, add-parts u v)
@@ -60,10 +63,12 @@ product-most x y c n m h k w o =
     let Q = mul-result x y n m in
     let z = zero-nq (units x) (units y) h k in
     quot-below (rank (x ⊗ y)) (pos c) (pq (units x) (units y)) (nq (units x) (units y)) (2 ^ 1074) (Q .quot) w
-    (le-trans (le-of-eq (ap (λ (t : ℕ). t + 0 * 2 ^ 1074) (z .1) ∙ add-zero (P (units x) * P (units y)))) (le-trans o (le-of-eq (sym (add-zero (c * 2 ^ 1074)) ∙ ap (λ (t : ℕ). c * 2 ^ 1074 + t) (sym (z .0))))))
+    (le-trans (le-of-eq (ap (λ (t : ℕ). t + 0 * 2 ^ 1074) (z .1) ∙ add-zero (P (units x) * P (units y))))
+    (le-trans o (le-of-eq (sym (add-zero (c * 2 ^ 1074)) ∙ ap (λ (t : ℕ). c * 2 ^ 1074 + t) (sym (z .0))))))
 
 pub whole-nonneg : (a : Float) → Whole a → pos 0 ⊑ int a → pos 0 ⊑ units a
-whole-nonneg a w h = subst (λ (z : ℤ). pos 0 ⊑ z) (sym (to-units a w .val)) (at (int a) (2 ^ 1074) (P-sc (2 ^ 1074) (int a)) (N-sc (2 ^ 1074) (int a) ∙ ap (λ (n : ℕ). n * 2 ^ 1074) (none (int a) h) ∙ zero-mul (2 ^ 1074)))
+whole-nonneg a w h = subst (λ (z : ℤ). pos 0 ⊑ z) (sym (to-units a w .val))
+    (at (int a) (2 ^ 1074) (P-sc (2 ^ 1074) (int a)) (N-sc (2 ^ 1074) (int a) ∙ ap (λ (n : ℕ). n * 2 ^ 1074) (none (int a) h) ∙ zero-mul (2 ^ 1074)))
   where
     at : (z : ℤ) (L : ℕ) → P (sc L z) ≡ P z * L → N (sc L z) ≡ 0 → pos 0 ⊑ sc L z
     at z L e f = omega arith
@@ -113,7 +118,8 @@ roundoff {m} b h =
     let v = whole-nonneg m (b .whole) h in
     tol-of (nonneg-real (product-nonneg c m (floor-parts .num) n u v)) (nonneg-rank (product-nonneg c m (floor-parts .num) n u v))
     (product-most c m (3 * 2 ^ 1071) (floor-parts .num) n u v eighths-held
-    (le-trans (le-of-eq (ap (λ (z : ℤ). P z * P (units m)) (parts-units c false (6338253001141147 * 2 ^ 975) floor-parts))) (le-trans (mul-le-mul-left (6338253001141147 * 2 ^ 975) (most-units (2 ^ 45) m b)) (lit≤ tt))))
+    (le-trans (le-of-eq (ap (λ (z : ℤ). P z * P (units m)) (parts-units c false (6338253001141147 * 2 ^ 975) floor-parts)))
+    (le-trans (mul-le-mul-left (6338253001141147 * 2 ^ 975) (most-units (2 ^ 45) m b)) (lit≤ tt))))
 
 -- ---- the larger of two tolerances, and what one leaves of another
 pub zero-tol : Tol 0f
@@ -136,8 +142,11 @@ rest {x} {y} a b = go (lt (x ⊖ y) 0f) refl
     smaller u v h = omega (arith, sub-parts u v)
 
     high : rank (x ⊖ y) ⊑ pos (3 * 2 ^ 1071)
-    high = link (rank (x ⊖ y)) (units x) (pos (3 * 2 ^ 1071)) (sub-below x y (tol-num a) (tol-num b) (units x) (subst K.Held (rank-num x (tol-num a)) (held-of x (tol-real a))) (smaller (units x) (units y) (tol-least b))) (tol-most a)
+    high = link (rank (x ⊖ y)) (units x) (pos (3 * 2 ^ 1071))
+        (sub-below x y (tol-num a) (tol-num b) (units x) (subst K.Held (rank-num x (tol-num a)) (held-of x (tol-real a)))
+        (smaller (units x) (units y) (tol-least b))) (tol-most a)
 
     go : (t : Bool) → lt (x ⊖ y) 0f ≡ t → Tol (maxf (x ⊖ y) 0f)
     go true e = subst Tol (sym (maxf-second (x ⊖ y) 0f e)) zero-tol
-    go false e = subst Tol (sym (maxf-first (x ⊖ y) 0f (r .real) e)) (tol-of r (subst (λ (z : ℤ). z ⊑ rank (x ⊖ y)) zero-rank (nlt→⊑ (x ⊖ y) 0f r real-0 (subst (λ (t : Bool). T (not t)) (sym e) tt))) high)
+    go false e = subst Tol (sym (maxf-first (x ⊖ y) 0f (r .real) e))
+        (tol-of r (subst (λ (z : ℤ). z ⊑ rank (x ⊖ y)) zero-rank (nlt→⊑ (x ⊖ y) 0f r real-0 (subst (λ (t : Bool). T (not t)) (sym e) tt))) high)

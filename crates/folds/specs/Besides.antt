@@ -109,7 +109,8 @@ module _ {s : Shape} {starts : List ℕ} {r : ℕ} {f : Floats} {n : Numbers} (p
       omega (arith, in-model {v = v} (G .call) (in-rows p G) (rw (g, ← t) a), G .call .vars)
 
 -- ---- has_binary
-pub has-binary-end : {s : Shape} {starts : List ℕ} {r : ℕ} (n : Numbers) (v : ℕ) {z : Bool} {a k : ℕ} → r < s .rows → length (n .binary) ≡ s .terms → a ≡ getD starts r 0 → k ≡ getD (n .binaries) r 0 → z ≡ has v (listed a k (n .binary))
+pub has-binary-end : {s : Shape} {starts : List ℕ} {r : ℕ} (n : Numbers) (v : ℕ) {z : Bool} {a k : ℕ} → r < s .rows → length (n .binary) ≡ s .terms
+    → a ≡ getD starts r 0 → k ≡ getD (n .binaries) r 0 → z ≡ has v (listed a k (n .binary))
     → TellsN (Spans starts) s r n z (λ M w x. has v (binariesOf (x .binding)))
 has-binary-end {r = r} n v {z} {a} {k} p zs ea ek ez =
     record {
@@ -146,7 +147,8 @@ pub summed-none : {starts : List ℕ} {s : Shape} {r : ℕ} (bs : List ℕ) {f :
 summed-none bs = record { rest = λ M w x g c h. refl }
 
 module _ {starts : List ℕ} {s : Shape} {r : ℕ} (bs : List ℕ) (f : Floats) (n : Numbers) {j : ℕ} {sum : Float} (h : Summed starts s r bs f n j sum) where
-  pub summed-more : {e i : ℕ} {z : Float} → j < getD (n .folded) r 0 → e ≡ getD starts (r + 1) 0 → i ≡ e - (j + 1) → z ≡ besides bs sum (getD (n .vars) i 0) (getD (f .coeffs) i nan) (getD (f .elo) (getD (n .vars) i 0) nan)
+  pub summed-more : {e i : ℕ} {z : Float} → j < getD (n .folded) r 0 → e ≡ getD starts (r + 1) 0 → i ≡ e - (j + 1)
+      → z ≡ besides bs sum (getD (n .vars) i 0) (getD (f .coeffs) i nan) (getD (f .elo) (getD (n .vars) i 0) nan)
       → Summed starts s r bs f n (j + 1) z
   summed-more {e} {i} {z} q ee ei ez =
       record {
@@ -157,11 +159,13 @@ module _ {starts : List ℕ} {s : Shape} {r : ℕ} (bs : List ℕ) (f : Floats) 
             let ev : getD (n .vars) i 0 ≡ t .var = ap (λ (u : ℕ). getD (n .vars) u 0) ii ∙ k .shown .folded j l .var in
             let ec : getD (f .coeffs) i nan ≡ t .coeff = ap (λ (u : ℕ). getD (f .coeffs) u nan) ii ∙ k .shown .folded j l .coeff in
             let zz : z ≡ besides bs sum (t .var) (t .coeff) (at (w .elo) (t .var)) = rw (← k .elo, ← ev, ← ec) ez in
-            ap (λ (u : Float). fixedBesidesFrom w bs u (drop (j + 1) (x .folded))) zz ∙ ap (λ (u : ℕ). fixedBesidesFrom w bs (besides bs sum (t .var) (t .coeff) (at (w .elo) (t .var))) (drop u (x .folded))) (add-one j)
+            ap (λ (u : Float). fixedBesidesFrom w bs u (drop (j + 1) (x .folded))) zz ∙ ap
+            (λ (u : ℕ). fixedBesidesFrom w bs (besides bs sum (t .var) (t .coeff) (at (w .elo) (t .var))) (drop u (x .folded))) (add-one j)
             ∙ sym (from-more w bs sum t (drop (suc j) (x .folded))) ∙ ap (fixedBesidesFrom w bs sum) (sym (drop-cons (x .folded) j noTerm l)) ∙ h .rest M w x g c k;
       }
 
-pub besides-end : {s : Shape} {starts : List ℕ} {r : ℕ} (f : Floats) (n : Numbers) {j a k m : ℕ} {sum : Float} → r < s .rows → Sized s f n → a ≡ getD starts r 0 → k ≡ getD (n .binaries) r 0 → m ≡ getD (n .folded) r 0
+pub besides-end : {s : Shape} {starts : List ℕ} {r : ℕ} (f : Floats) (n : Numbers) {j a k m : ℕ} {sum : Float} → r < s .rows → Sized s f n → a ≡ getD starts r 0
+    → k ≡ getD (n .binaries) r 0 → m ≡ getD (n .folded) r 0
     → Summed starts s r (listed a k (n .binary)) f n j sum → m ≤ j → j ≤ m → Tells (Spans starts) s r f n sum (λ M w x. fixedBesides w x (binariesOf (x .binding)))
 unfolding fixedBesides
 besides-end {r = r} f n {j} {a} {k} {m} {sum} p z ea ek em h q t =
@@ -169,7 +173,8 @@ besides-end {r = r} f n {j} {a} {k} {m} {sum} p z ea ek em h q t =
       tells = λ M w x g c l.
           let bs = listed a k (n .binary) in
           let e : a ≡ from M r = ea ∙ start-of M r (g .starts) in
-          let b : binariesOf (x .binding) ≡ bs = sym (binaries-are c (omega (arith, p, c .rows)) (z .binary) l) ∙ sym (ap (λ (u : ℕ). listed u k (n .binary)) e ∙ ap (λ (u : ℕ). listed (from M r) u (n .binary)) ek) in
+          let b : binariesOf (x .binding) ≡ bs = sym (binaries-are c (omega (arith, p, c .rows)) (z .binary) l)
+          ∙ sym (ap (λ (u : ℕ). listed u k (n .binary)) e ∙ ap (λ (u : ℕ). listed (from M r) u (n .binary)) ek) in
           let y : j ≡ length (x .folded) = omega (arith, q, t, em, l .shown .folds) in
           let d : drop j (x .folded) ≡ [] = ap (λ (u : ℕ). drop u (x .folded)) y ∙ drop-length (x .folded) in
           ap (λ (u : List ℕ). fixedBesidesFrom w u 0f (x .folded)) b ∙ sym (h .rest M w x g c l) ∙ ap (fixedBesidesFrom w bs sum) d ∙ from-none w bs sum;

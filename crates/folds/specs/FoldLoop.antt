@@ -93,7 +93,8 @@ module _ {starts : List ℕ} {s : Shape} {r k i left : ℕ} {f₀ f : Floats} {n
           rest = next-rest;
           row = record {
             does = λ M w x p c h.
-                subst (λ (u : ℕ × Row). OneRow M r (u .1) f₀ n₀ f₁ n₁) (sym (same-step M w x p c h)) (one-then (T .row .does M w x p c h) (S .row .does M w (before M w x p c h .1) p c (h₁ M w x p c h)));
+                subst (λ (u : ℕ × Row). OneRow M r (u .1) f₀ n₀ f₁ n₁) (sym (same-step M w x p c h))
+                (one-then (T .row .does M w x p c h) (S .row .does M w (before M w x p c h .1) p c (h₁ M w x p c h)));
           };
           place = record { tells = λ M w x p c h. ap (λ (u : ℕ × Row). u .0) (same-step M w x p c h) ∙ S .place .tells M w (before M w x p c h .1) p c (h₁ M w x p c h) };
         }

@@ -58,7 +58,8 @@ in-zip m v (u ∷ vs) (a ∷ cs) h e =
 pub in-model : {M : Model} {s : Shape} {r v : ℕ} → Call M s → r < length (M .rhs) → hasTerm v (written M r) ≡ true → v < length (M .lower)
 unfolding written
 in-model {M} {s} {r} {v} c p e =
-    in-zip (length (M .lower)) v _ _ (λ k l. let q : k < nnz M r = omega (arith, l, indices c p) in rw (span-at (M .index) (from M r) (nnz M r) k 0 q) (c .index (from M r + k) (omega (arith, q, nnz-is M r, c .last r p)))) e
+    in-zip (length (M .lower)) v _ _ (λ k l. let q : k < nnz M r = omega (arith, l, indices c p) in
+    rw (span-at (M .index) (from M r) (nnz M r) k 0 q) (c .index (from M r + k) (omega (arith, q, nnz-is M r, c .last r p)))) e
 
 -- ---- foldStep, by its tests
 module _ (w : Work) (i : ℕ) (x : Row) where
@@ -182,7 +183,8 @@ module _ {s : Shape} {starts : List ℕ} (r i : ℕ) {a : ℕ} (f : Floats) (n :
         all-folded : OneRow M r (foldTerm w i (getD (x .terms) i noTerm) x) f n f₃ n₂
         all-folded =
             subst (λ (u : Row). OneRow M r u f n f₃ n₂)
-            (ap (λ (u : Float). shifted (y ⊗ u) (withFolded (x .folded ++ (term v y ∷ [])) (withTerms (swapRemove (x .terms) i) x))) value-is ∙ sym (fold-is w i x (term v y)) ∙ ap (λ (u : Term). foldTerm w i u x) term-is)
+            (ap (λ (u : Float). shifted (y ⊗ u) (withFolded (x .folded ++ (term v y ∷ [])) (withTerms (swapRemove (x .terms) i) x))) value-is
+            ∙ sym (fold-is w i x (term v y)) ∙ ap (λ (u : Term). foldTerm w i u x) term-is)
             (one-then swapped (one-then pushed shift-now))
 
   pub fold-zero : {f₁ : Floats} {n₁ : Numbers} → eq y 0f ≡ true → f₁ ≡ swapF a i (getD (n .len) r 0) f → n₁ ≡ swapN r a i (getD (n .len) r 0) n → Steps (Spans starts) s r i f n f₁ n₁ i
@@ -192,7 +194,8 @@ module _ {s : Shape} {starts : List ℕ} (r i : ℕ) {a : ℕ} (f : Floats) (n :
         place = record { tells = λ M w x k c h. ap (λ (u : ℕ × Row). u .0) (step-zero w i x (test-is M w x k c h e)) };
       }
 
-  pub fold-fixed-term : {f₁ f₂ f₃ : Floats} {n₁ n₂ : Numbers} {e : ℕ} {t : Float} {b : Bool} → eq y 0f ≡ false → b ≡ fixedIn f v → b ≡ true → t ≡ getD (f .elo) v nan → f₁ ≡ swapF a i (getD (n .len) r 0) f
+  pub fold-fixed-term : {f₁ f₂ f₃ : Floats} {n₁ n₂ : Numbers} {e : ℕ} {t : Float} {b : Bool} → eq y 0f ≡ false → b ≡ fixedIn f v → b ≡ true
+      → t ≡ getD (f .elo) v nan → f₁ ≡ swapF a i (getD (n .len) r 0) f
       → n₁ ≡ swapN r a i (getD (n .len) r 0) n → Sized s f₁ n₁ → e ≡ getD starts (r + 1) 0 → f₂ ≡ pushF e (getD (n₁ .folded) r 0) y f₁ → n₂ ≡ pushN r e (getD (n₁ .folded) r 0) v n₁ → Sized s f₂ n₂
       → f₃ ≡ shiftF r (y ⊗ t) f₂ → Steps (Spans starts) s r i f n f₃ n₂ i
   fold-fixed-term {f₁} {f₂} {f₃} {n₁} {n₂} nz eb bt et e₁ g₁ z₁ ee e₂ g₂ z₂ e₃ =

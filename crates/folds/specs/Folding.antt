@@ -57,7 +57,17 @@ abbrev pub withFolded : List Term → Row → Row
 withFolded ts w = record { terms = w .terms; lo = w .lo; hi = w .hi; foldScale = w .foldScale; shift = w .shift; folded = ts; alive = w .alive; touched = w .touched; binding = w .binding }
 
 abbrev pub shifted : Float → Row → Row
-shifted y w = record { terms = w .terms; lo = w .lo ⊖ y; hi = w .hi ⊖ y; foldScale = w .foldScale ⊕ abs y; shift = w .shift ⊕ y; folded = w .folded; alive = w .alive; touched = w .touched; binding = w .binding }
+shifted y w = record {
+  terms = w .terms;
+  lo = w .lo ⊖ y;
+  hi = w .hi ⊖ y;
+  foldScale = w .foldScale ⊕ abs y;
+  shift = w .shift ⊕ y;
+  folded = w .folded;
+  alive = w .alive;
+  touched = w .touched;
+  binding = w .binding;
+}
 
 -- an element of a block after a store, by its place
 module _ {A : Type 0} (l : List A) (d : A) {j : ℕ} {z : A} (y : A) where
@@ -68,7 +78,8 @@ module _ {A : Type 0} (l : List A) (d : A) {j : ℕ} {z : A} (y : A) where
   left-alone i ne g = getD-set-other l i j y d ne ∙ g
 
 -- a binding reads none of the blocks that folding stores to
-pub binding-same : {M : Model} {p p′ : Parts} {r : ℕ} {b : Option Binding} → p′ .binaries ≡ p .binaries → p′ .binary ≡ p .binary → p′ .written ≡ p .written → p′ .rewritten ≡ p .rewritten → p′ .kept ≡ p .kept → BindingShown M p r b → BindingShown M p′ r b
+pub binding-same : {M : Model} {p p′ : Parts} {r : ℕ} {b : Option Binding} → p′ .binaries ≡ p .binaries → p′ .binary ≡ p .binary → p′ .written ≡ p .written
+    → p′ .rewritten ≡ p .rewritten → p′ .kept ≡ p .kept → BindingShown M p r b → BindingShown M p′ r b
 binding-same {r = r} e₁ e₂ e₃ e₄ e₅ (unbound g) = unbound (ap (λ (l : List ℕ). getD l r 0) e₁ ∙ g)
 binding-same {M} {r = r} e₁ e₂ e₃ e₄ e₅ (isBound {b} h) =
     isBound
@@ -330,11 +341,13 @@ module _ (r : ℕ) (f : Floats) where
       → scale ≡ getD (f₂ .foldScale) r nan → size ≡ abs y → f₃ ≡ put-foldScale r (scale ⊕ size) f₂ → shift ≡ getD (f₃ .shift) r nan → f₄ ≡ put-shift r (shift ⊕ y) f₃ → f₄ ≡ shiftF r y f
   shift-put y a₁ e₁ a₂ e₂ a₃ b e₃ a₄ e₄ = rw (e₄, a₄, e₃, a₃, b, e₂, a₂, e₁, a₁)
 
-  pub swap-floats : (a i : ℕ) (n : Numbers) {m : ℕ} {x : Float} {f₁ : Floats} → m ≡ getD (n .len) r 0 → x ≡ getD (f .coeffs) (a + (m - 1)) nan → f₁ ≡ put-coeffs (a + i) x f → f₁ ≡ swapF a i (getD (n .len) r 0) f
+  pub swap-floats : (a i : ℕ) (n : Numbers) {m : ℕ} {x : Float} {f₁ : Floats} → m ≡ getD (n .len) r 0 → x ≡ getD (f .coeffs) (a + (m - 1)) nan
+      → f₁ ≡ put-coeffs (a + i) x f → f₁ ≡ swapF a i (getD (n .len) r 0) f
   swap-floats a i n em ex e = rw (e, ex, em)
 
 module _ (r : ℕ) (n : Numbers) where
-  pub swap-numbers : (a i : ℕ) {m v : ℕ} {n₁ n₂ : Numbers} → m ≡ getD (n .len) r 0 → v ≡ getD (n .vars) (a + (m - 1)) 0 → n₁ ≡ put-vars (a + i) v n → n₂ ≡ put-len r (m - 1) n₁ → n₂ ≡ swapN r a i (getD (n .len) r 0) n
+  pub swap-numbers : (a i : ℕ) {m v : ℕ} {n₁ n₂ : Numbers} → m ≡ getD (n .len) r 0 → v ≡ getD (n .vars) (a + (m - 1)) 0 → n₁ ≡ put-vars (a + i) v n
+      → n₂ ≡ put-len r (m - 1) n₁ → n₂ ≡ swapN r a i (getD (n .len) r 0) n
   swap-numbers a i em ev e₁ e₂ = rw (e₂, e₁, ev, em)
 
   pub push-floats : (e : ℕ) (y : Float) (f : Floats) {k : ℕ} {f₁ : Floats} → k ≡ getD (n .folded) r 0 → f₁ ≡ put-coeffs (e - (k + 1)) y f → f₁ ≡ pushF e (getD (n .folded) r 0) y f

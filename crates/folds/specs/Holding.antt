@@ -46,7 +46,8 @@ weight-is (unbound e) = rw e
 weight-is {p = p} {r} (isBound h) = weight-some (getD (p .binaries) r 0) (omega (arith, h .count, h .some))
 
 -- ---- what a row stands as after a step
-pub standing-after : {P : Model → Type 0} {s : Shape} {r : ℕ} {f f₁ : Floats} {n n₁ : Numbers} {F : Model → Work → Row → Row} (G : Standing P s r f n) → Turns P s r f n f₁ n₁ F → Kept (G .model) r (G .row) (F (G .model) (G .work) (G .row))
+pub standing-after : {P : Model → Type 0} {s : Shape} {r : ℕ} {f f₁ : Floats} {n n₁ : Numbers} {F : Model → Work → Row → Row} (G : Standing P s r f n)
+    → Turns P s r f n f₁ n₁ F → Kept (G .model) r (G .row) (F (G .model) (G .work) (G .row))
     → Standing P s r f₁ n₁
 standing-after {F = F} G t k =
     let a = k .alive (G .stands .alive) in
@@ -154,7 +155,8 @@ module _ {P : Model → Type 0} {s : Shape} {r : ℕ} (f : Floats) (n : Numbers)
       pub hold-hi : bh ≡ true → Holds P s r f n f n false
       hold-hi t = held (λ M w x p c h. gives-hi x (ap isFinite (sym (eh ∙ h .shown .hi)) ∙ sym ebh ∙ t))
 
-      pub hold-back : {f₁ f₂ : Floats} {n₁ n₂ : Numbers} → r < s .rows → (k ≡ 0 → ⊥) → bl ≡ false → bh ≡ false → Writes P s r f n f₁ n₁ (λ M. asWritten M r) → Turns P s r f₁ n₁ f₂ n₂ (λ M. foldFixed M r)
+      pub hold-back : {f₁ f₂ : Floats} {n₁ n₂ : Numbers} → r < s .rows → (k ≡ 0 → ⊥) → bl ≡ false → bh ≡ false → Writes P s r f n f₁ n₁ (λ M. asWritten M r)
+          → Turns P s r f₁ n₁ f₂ n₂ (λ M. foldFixed M r)
           → Holds P s r f n f₂ n₂ true
       unfolding holdRewrites
       hold-back {f₁} {f₂} {n₁} {n₂} q ne fl fh W T =
@@ -181,7 +183,8 @@ is-false : (b : Bool) → (T b → ⊥) → b ≡ false
 is-false true h = absurd (h tt)
 is-false false h = refl
 
-module _ {P : Model → Type 0} {s : Shape} {r : ℕ} (f : Floats) (n : Numbers) {f₁ : Floats} {n₁ : Numbers} {before after : ℕ} (eb : before ≡ getD (n .folded) r 0) (t : Turns P s r f n f₁ n₁ looped) (ea : after ≡ getD (n₁ .folded) r 0) where
+module _ {P : Model → Type 0} {s : Shape} {r : ℕ} (f : Floats) (n : Numbers) {f₁ : Floats} {n₁ : Numbers} {before after : ℕ}
+    (eb : before ≡ getD (n .folded) r 0) (t : Turns P s r f n f₁ n₁ looped) (ea : after ≡ getD (n₁ .folded) r 0) where
   module _ (M : Model) (w : Work) (x : Row) (p : P M) (c : Call M s) (h : Stands M r f n w x) where
     one : OneRow M r (looped M w x) f n f₁ n₁
     one = t .does M w x p c h

@@ -106,7 +106,8 @@ module _ {M : Model} {s : Shape} (r : ℕ) (w : Work) (c : Call M s) (p : r < le
   given-again =
       let row1 = foldLoop (length (asWritten M r .terms)) w (0, asWritten M r) .1 in
       let u : row1 .binding ≡ none = loop-folds w (asWritten M r) .binding ∙ as-written-unbound M r in
-      ap (λ (x : Row). choose (ltb (length (asWritten M r .folded)) (length (row1 .folded))) x row1) (hold-unbound M r w row1 u) ∙ choose-same (ltb (length (asWritten M r .folded)) (length (row1 .folded))) row1 ∙ loop-given
+      ap (λ (x : Row). choose (ltb (length (asWritten M r .folded)) (length (row1 .folded))) x row1) (hold-unbound M r w row1 u)
+      ∙ choose-same (ltb (length (asWritten M r .folded)) (length (row1 .folded))) row1 ∙ loop-given
 
 pub fold-fixed-keeps : {P : Model → Type 0} {s : Shape} (r : ℕ) → r < s .rows → Keeps P s (λ M w. withRow r (foldFixed M r w (getD (w .rows) r noRow)) w)
 fold-fixed-keeps r p =

@@ -270,7 +270,8 @@ widened-binding : (kept old : Float) (o : Option Binding) (x : Row) → widen ke
 unfolding widen
 widened-binding kept old o x = go (isFinite (x .hi))
   where
-    go : (b : Bool) → choose b (withRange (x .lo) (x .hi ⊕ (kept ⊖ old)) (withBinding o x)) (withRange (x .lo ⊖ (kept ⊖ old)) (x .hi) (withBinding o x)) ≡ withBinding o (choose b (withRange (x .lo) (x .hi ⊕ (kept ⊖ old)) x) (withRange (x .lo ⊖ (kept ⊖ old)) (x .hi) x))
+    go : (b : Bool) → choose b (withRange (x .lo) (x .hi ⊕ (kept ⊖ old)) (withBinding o x)) (withRange (x .lo ⊖ (kept ⊖ old)) (x .hi) (withBinding o x))
+        ≡ withBinding o (choose b (withRange (x .lo) (x .hi ⊕ (kept ⊖ old)) x) (withRange (x .lo ⊖ (kept ⊖ old)) (x .hi) x))
     go b = choose-binding b o _ _
 
 relax-some : (M : Model) (w : Work) (x : Row) (b : Binding) (k : Float) → x .binding ≡ some b → k ≡ rewriteRoom M (b .written) (b .rewritten) (fixedBesides w x (b .binaries))

@@ -91,7 +91,8 @@ not-below false h = refl
 fold-still : (M : Model) (r : ℕ) (w : Work) (x : Row) → foldLoop (length (x .terms)) w (0, x) .1 ≡ x → foldFixed M r w x ≡ x
 unfolding foldFixed
 fold-still M r w x e =
-    no _ _ (ap (λ (y : Row). ltb (length (x .folded)) (length (y .folded))) e ∙ not-below (ltb (length (x .folded)) (length (x .folded))) (λ t. lt-irrefl (length (x .folded)) (ltb→lt (length (x .folded)) (length (x .folded)) t))) ∙ e
+    no _ _ (ap (λ (y : Row). ltb (length (x .folded)) (length (y .folded))) e ∙ not-below (ltb (length (x .folded)) (length (x .folded)))
+    (λ t. lt-irrefl (length (x .folded)) (ltb→lt (length (x .folded)) (length (x .folded)) t))) ∙ e
 
 module _ {starts : List ℕ} {r : ℕ} {f : Floats} {n : Numbers} (M : Model) (w : Work) (x : Row) (k : Spans starts M) (h : Stands M r f n w x) (S : Stay starts r (getD (n .len) r 0) f n) where
   start-is : getD starts r 0 ≡ from M r
@@ -102,7 +103,8 @@ module _ {starts : List ℕ} {r : ℕ} {f : Floats} {n : Numbers} (M : Model) (w
   unfolding leavesAt
   still j q =
       let t = h .shown .terms j q in
-      let e : (eq (getD (f .coeffs) (from M r + j) nan) 0f || fixedIn f (getD (n .vars) (from M r + j) 0)) ≡ false = ap (λ (u : ℕ). leavesAt f n (u + j)) (sym start-is) ∙ S .stays j (omega (arith, q, h .shown .len)) in
+      let e : (eq (getD (f .coeffs) (from M r + j) nan) 0f || fixedIn f (getD (n .vars) (from M r + j) 0)) ≡ false = ap
+      (λ (u : ℕ). leavesAt f n (u + j)) (sym start-is) ∙ S .stays j (omega (arith, q, h .shown .len)) in
       record {
         coeff = ap (λ (u : Float). eq u 0f) (sym (t .coeff)) ∙ or-left _ (fixedIn f (getD (n .vars) (from M r + j) 0)) e;
         var =
@@ -113,6 +115,7 @@ module _ {starts : List ℕ} {r : ℕ} {f : Floats} {n : Numbers} (M : Model) (w
   row-still : foldFixed M r w x ≡ x
   row-still = fold-still M r w x (loop-still (length (x .terms)) w x 0 (λ j p q. still j (omega (arith, q))))
 
-pub scan-turns : {P : Model → Type 0} {s : Shape} {starts : List ℕ} {r : ℕ} {f : Floats} {n : Numbers} {z : Bool} → ((M : Model) → P M → Spans starts M) → Scanned starts r f n z → z ≡ false → Turns P s r f n f n (λ M. foldFixed M r)
+pub scan-turns : {P : Model → Type 0} {s : Shape} {starts : List ℕ} {r : ℕ} {f : Floats} {n : Numbers} {z : Bool} → ((M : Model) → P M → Spans starts M)
+    → Scanned starts r f n z → z ≡ false → Turns P s r f n f n (λ M. foldFixed M r)
 scan-turns {r = r} {f = f} {n = n} q S e =
     record { does = λ M w x p c h. subst (λ (y : Row). OneRow M r y f n f n) (sym (row-still M w x (q M p) h (S .none e))) (one-none h) }

@@ -6,7 +6,8 @@ use lib.ListN.{length}
 use lib.Ieee.{Float}
 use Rattle.space.specs.declared.Shape.{Shape}
 use Rattle.space.specs.Store.{Floats, Numbers, floatsOf, numbersOf, HoldsF, HoldsN}
-use Rattle.space.specs.Blocks.{lo-length, hi-length, foldScale-length, shift-length, kept-length, coeffs-length, len-length, folded-length, alive-length, touched-length, binaries-length, vars-length, binary-length}
+use Rattle.space.specs.Blocks.{lo-length, hi-length, foldScale-length, shift-length, kept-length, coeffs-length, len-length}
+use Rattle.space.specs.Blocks.{folded-length, alive-length, touched-length, binaries-length, vars-length, binary-length}
 
 pub record Sized (s : Shape) (f : Floats) (n : Numbers) : Type 0 where
   pub lo : length (f .lo) ≡ s .rows

@@ -42,7 +42,7 @@ pub record Turns (P : Model → Type 0) (s : Shape) (r : ℕ) (f : Floats) (n : 
 pub record Tells {A : Type 0} (P : Model → Type 0) (s : Shape) (r : ℕ) (f : Floats) (n : Numbers) (z : A) (F : Model → Work → Row → A) : Type 0 where
   pub tells : (M : Model) (w : Work) (x : Row) → P M → Call M s → Stands M r f n w x → F M w x ≡ z
 
--- the same of a function that has the numbers alone, whatever the floats are
+-- what a function asks and tells of a row that has the numbers alone: whatever the floats are
 pub record StandingN (P : Model → Type 0) (s : Shape) (r : ℕ) (n : Numbers) : Type 0 where
   pub floats : Floats
   pub standing : Standing P s r floats n
@@ -94,7 +94,8 @@ pub stands-after : {M : Model} {r : ℕ} {x y : Row} {f f₁ : Floats} {n n₁ :
 stands-after h o a = record { alive = a; flag = o .alive ∙ a; elo = o .elo ∙ h .elo; ehi = o .ehi ∙ h .ehi; shown = o .now a }
 
 -- ---- from the state, and back
-pub stands-in : {M : Model} {s : Shape} {f : Floats} {n : Numbers} {r : ℕ} {o : List ℕ} {w : Work} → Call M s → r < s .rows → getD (n .alive) r 0 ≡ 1 → Shows M f n o w → Stands M r f n w (getD (w .rows) r noRow)
+pub stands-in : {M : Model} {s : Shape} {f : Floats} {n : Numbers} {r : ℕ} {o : List ℕ} {w : Work} → Call M s → r < s .rows → getD (n .alive) r 0 ≡ 1
+    → Shows M f n o w → Stands M r f n w (getD (w .rows) r noRow)
 stands-in {M} {s} {f} {n} {r} {o} {w} c p e h =
     let l : r < length (M .rhs) = omega (arith, p, c .rows) in
     let t : isOne (getD (n .alive) r 0) ≡ true = ap isOne e ∙ one-is in

@@ -98,10 +98,46 @@ module _ {M : Model} {s : Shape} {r : ℕ} (c : Call M s) (p : r < length (M .rh
 
 -- ---- write_terms: the places a .. e of the two blocks are the input's, and nothing else changed
 abbrev pub withCoeffs : List Float → Floats → Floats
-withCoeffs xs f = record { wlo = f .wlo; whi = f .whi; elo = f .elo; ehi = f .ehi; lo = f .lo; hi = f .hi; foldScale = f .foldScale; shift = f .shift; written = f .written; rewritten = f .rewritten; kept = f .kept; bound = f .bound; coeffs = xs }
+withCoeffs xs f = record {
+  wlo = f .wlo;
+  whi = f .whi;
+  elo = f .elo;
+  ehi = f .ehi;
+  lo = f .lo;
+  hi = f .hi;
+  foldScale = f .foldScale;
+  shift = f .shift;
+  written = f .written;
+  rewritten = f .rewritten;
+  kept = f .kept;
+  bound = f .bound;
+  coeffs = xs;
+}
 
 abbrev pub withVars : List ℕ → Numbers → Numbers
-withVars vs f = record { queued = f .queued; dropped = f .dropped; tightened = f .tightened; fixed = f .fixed; rewrote = f .rewrote; passes = f .passes; dirty = f .dirty; coeffDirty = f .coeffDirty; queue = f .queue; wave = f .wave; len = f .len; folded = f .folded; alive = f .alive; touched = f .touched; binaries = f .binaries; fate = f .fate; slot = f .slot; badDec = f .badDec; badInc = f .badInc; vars = vs; binary = f .binary }
+withVars vs f = record {
+  queued = f .queued;
+  dropped = f .dropped;
+  tightened = f .tightened;
+  fixed = f .fixed;
+  rewrote = f .rewrote;
+  passes = f .passes;
+  dirty = f .dirty;
+  coeffDirty = f .coeffDirty;
+  queue = f .queue;
+  wave = f .wave;
+  len = f .len;
+  folded = f .folded;
+  alive = f .alive;
+  touched = f .touched;
+  binaries = f .binaries;
+  fate = f .fate;
+  slot = f .slot;
+  badDec = f .badDec;
+  badInc = f .badInc;
+  vars = vs;
+  binary = f .binary;
+}
 
 pub record Copied (is : List ℕ) (cs : List Float) (a e : ℕ) (f : Floats) (n : Numbers) (f′ : Floats) (n′ : Numbers) : Type 0 where
   pub newCoeffs : List Float
@@ -168,7 +204,8 @@ marksPut r k n = put-binaries r 0 (put-touched r 0 (put-alive r 1 (put-folded r 
 pub sides-put : (r : ℕ) (lo hi : Float) (f : Floats) {f₁ f₂ f₃ f₄ : Floats} → f₁ ≡ put-lo r lo f → f₂ ≡ put-hi r hi f₁ → f₃ ≡ put-foldScale r 0f f₂ → f₄ ≡ put-shift r 0f f₃ → f₄ ≡ sidesPut r lo hi f
 sides-put r lo hi f e₁ e₂ e₃ e₄ = rw (e₄, e₃, e₂, e₁)
 
-pub marks-put : (r k : ℕ) (n : Numbers) {n₁ n₂ n₃ n₄ n₅ : Numbers} → n₁ ≡ put-len r k n → n₂ ≡ put-folded r 0 n₁ → n₃ ≡ put-alive r 1 n₂ → n₄ ≡ put-touched r 0 n₃ → n₅ ≡ put-binaries r 0 n₄ → n₅ ≡ marksPut r k n
+pub marks-put : (r k : ℕ) (n : Numbers) {n₁ n₂ n₃ n₄ n₅ : Numbers} → n₁ ≡ put-len r k n → n₂ ≡ put-folded r 0 n₁ → n₃ ≡ put-alive r 1 n₂
+    → n₄ ≡ put-touched r 0 n₃ → n₅ ≡ put-binaries r 0 n₄ → n₅ ≡ marksPut r k n
 marks-put r k n e₁ e₂ e₃ e₄ e₅ = rw (e₅, e₄, e₃, e₂, e₁)
 
 module _ {s : Shape} {starts index : List ℕ} {coeff : List Float} {cmp : List ℕ} {rhs : List Float} where

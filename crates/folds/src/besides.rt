@@ -1,4 +1,5 @@
-// A row's rewritten binaries, and the magnitude of its folded terms but theirs.
+// `fixed_besides` of src/presolve/work.rs of microlp 0.7.0, changed: a row's rewritten binaries, and
+// the magnitude of its folded terms but theirs.
 ghost use mathlib.Core.Path.{_≡_};
 ghost use Prim.Native.Nat.{_+_, _<_, _≤_};
 ghost use lib.ListN.{getD};
@@ -42,7 +43,8 @@ pub fn has_binary(starts: &[usize], m: &[usize], s: Shape, r: usize, v: usize) -
 fn fixed_term(w: &[f64], m: &[usize], s: Shape, a: usize, k: usize, i: usize, sum: f64) -> f64
     requires { ⌜ (a + k ≤ s .terms) × (i < s .terms) × HoldsF s (now w) × HoldsN s (now m) ⌝ }
     requires { ⌜ getD (numbersOf s (now m) .vars) i 0 < s .vars ⌝ }
-    ensures { λ z. ⌜ z ≡ besides (listed a k (numbersOf s (now (m .entry)) .binary)) sum (getD (numbersOf s (now (m .entry)) .vars) i 0) (getD (floatsOf s (now (w .entry)) .coeffs) i nan) (getD (floatsOf s (now (w .entry)) .elo) (getD (numbersOf s (now (m .entry)) .vars) i 0) nan) ⌝ }
+    ensures { λ z. ⌜ z ≡ besides (listed a k (numbersOf s (now (m .entry)) .binary)) sum (getD (numbersOf s (now (m .entry)) .vars) i 0)
+        (getD (floatsOf s (now (w .entry)) .coeffs) i nan) (getD (floatsOf s (now (w .entry)) .elo) (getD (numbersOf s (now (m .entry)) .vars) i 0) nan) ⌝ }
 {
     let v = space::get_var(m, s, i);
     if has_among(m, s, a, k, v) {

@@ -1,4 +1,5 @@
-// Folding: fixed variables and zero coefficients leave a row.
+// `fold_fixed` of src/presolve/work.rs of microlp 0.7.0, changed: fixed variables and zero coefficients
+// leave a row.
 ghost use mathlib.Core.Path.{_≡_};
 ghost use Prim.Native.Nat.{_+_, _<_, _≤_};
 ghost use lib.ListN.{length, getD};
@@ -11,7 +12,7 @@ ghost use Rattle.folds.specs.FoldStep.{fixedIn, Steps};
 use space::Shape;
 
 // = fixed
-pub fn fixed(w: &[f64], s: Shape, v: usize) -> bool
+pub(crate) fn fixed(w: &[f64], s: Shape, v: usize) -> bool
     requires { ⌜ (v < s .vars) × HoldsF s (now w) ⌝ }
     ensures { λ z. ⌜ z ≡ fixedIn (floatsOf s (now (w .entry))) v ⌝ }
 {
@@ -100,10 +101,11 @@ fn fold_step(
 }
 
 // = foldLoop, over all terms.
-pub fn fold_loop(starts: &[usize], w: &mut [f64], m: &mut [usize], s: Shape, r: usize)
+pub(crate) fn fold_loop(starts: &[usize], w: &mut [f64], m: &mut [usize], s: Shape, r: usize)
     requires { ⌜ (r < s .rows) × HoldsF s (now w) × HoldsN s (now m) ⌝ }
     requires { ⌜ Standing (Spans (now starts)) s r (floatsOf s (now w)) (numbersOf s (now m)) ⌝ }
-    ensures { λ _. ⌜ Turns (Spans (now (starts .entry))) s r (floatsOf s (now (w .entry))) (numbersOf s (now (m .entry))) (floatsOf s (now (w .exit))) (numbersOf s (now (m .exit))) (λ M w x. foldLoop (length (x .terms)) w (0, x) .1) ⌝ }
+    ensures { λ _. ⌜ Turns (Spans (now (starts .entry))) s r (floatsOf s (now (w .entry))) (numbersOf s (now (m .entry))) (floatsOf s (now (w .exit)))
+        (numbersOf s (now (m .exit))) (λ M w x. foldLoop (length (x .terms)) w (0, x) .1) ⌝ }
 {
     let mut at: usize = 0;
     let mut left = space::get_len(m, s, r);

@@ -1,5 +1,5 @@
-// `fold_fixed` and `hold_rewrites`: a row is folded, a rewritten one relaxed, and one whose rewrites left
-// it no finite side is given back as written.
+// `fold_fixed` and `hold_rewrites` of src/presolve/work.rs of microlp 0.7.0, changed: a row is folded,
+// a rewritten one relaxed, and one whose rewrites left it no finite side is given back as written.
 ghost use Prim.Native.Nat.{_<_};
 ghost use Rattle.definition.specs.Folds.{foldFixed};
 ghost use Rattle.space.specs.Store.{floatsOf, numbersOf, HoldsF, HoldsN};
@@ -25,7 +25,8 @@ pub fn hold_rewrites(
 ) -> bool
     requires { ⌜ (r < s .rows) × HoldsF s (now w) × HoldsN s (now m) ⌝ }
     requires { ⌜ Standing (Written (now starts) (now index) (now coeff) (now cmp) (now rhs)) s r (floatsOf s (now w)) (numbersOf s (now m)) ⌝ }
-    ensures { λ z. ⌜ Holds (Written (now (starts .entry)) (now (index .entry)) (now (coeff .entry)) (now (cmp .entry)) (now (rhs .entry))) s r (floatsOf s (now (w .entry))) (numbersOf s (now (m .entry))) (floatsOf s (now (w .exit))) (numbersOf s (now (m .exit))) z ⌝ }
+    ensures { λ z. ⌜ Holds (Written (now (starts .entry)) (now (index .entry)) (now (coeff .entry)) (now (cmp .entry)) (now (rhs .entry))) s r
+        (floatsOf s (now (w .entry))) (numbersOf s (now (m .entry))) (floatsOf s (now (w .exit))) (numbersOf s (now (m .exit))) z ⌝ }
 {
     let k = space::get_binaries(m, s, r);
     if k == 0 {
@@ -45,7 +46,7 @@ pub fn hold_rewrites(
 }
 
 // = foldFixed
-pub fn fold_fixed(
+pub(crate) fn fold_fixed(
     starts: &[usize],
     index: &[usize],
     coeff: &[f64],
@@ -58,7 +59,8 @@ pub fn fold_fixed(
 )
     requires { ⌜ (r < s .rows) × HoldsF s (now w) × HoldsN s (now m) ⌝ }
     requires { ⌜ Standing (Written (now starts) (now index) (now coeff) (now cmp) (now rhs)) s r (floatsOf s (now w)) (numbersOf s (now m)) ⌝ }
-    ensures { λ _. ⌜ Turns (Written (now (starts .entry)) (now (index .entry)) (now (coeff .entry)) (now (cmp .entry)) (now (rhs .entry))) s r (floatsOf s (now (w .entry))) (numbersOf s (now (m .entry))) (floatsOf s (now (w .exit))) (numbersOf s (now (m .exit))) (λ M. foldFixed M r) ⌝ }
+    ensures { λ _. ⌜ Turns (Written (now (starts .entry)) (now (index .entry)) (now (coeff .entry)) (now (cmp .entry)) (now (rhs .entry))) s r
+        (floatsOf s (now (w .entry))) (numbersOf s (now (m .entry))) (floatsOf s (now (w .exit))) (numbersOf s (now (m .exit))) (λ M. foldFixed M r) ⌝ }
 {
     let before = space::get_folded(m, s, r);
     fold_loop(starts, w, m, s, r);

@@ -1,4 +1,5 @@
-// `relax_binding`: what a rewritten row's binding keeps grows with the terms folded out of it.
+// `relax_binding` of src/presolve/work.rs of microlp 0.7.0, changed: what a rewritten row's binding
+// keeps grows with the terms folded out of it.
 ghost use Prim.Native.Nat.{_<_};
 ghost use Rattle.definition.specs.Folds.{relaxBinding};
 ghost use Rattle.space.specs.Store.{floatsOf, numbersOf, HoldsF, HoldsN};
@@ -23,7 +24,7 @@ fn widen(w: &mut [f64], s: Shape, r: usize, kept: f64, old: f64)
 }
 
 // = relaxBinding
-pub fn relax_binding(starts: &[usize], w: &mut [f64], m: &[usize], s: Shape, r: usize)
+pub(crate) fn relax_binding(starts: &[usize], w: &mut [f64], m: &[usize], s: Shape, r: usize)
     requires { ⌜ (r < s .rows) × HoldsF s (now w) × HoldsN s (now m) ⌝ }
     requires { ⌜ Standing (Spans (now starts)) s r (floatsOf s (now w)) (numbersOf s (now m)) ⌝ }
     ensures { λ _. ⌜ Turns (Spans (now (starts .entry))) s r (floatsOf s (now (w .entry))) (numbersOf s (now (m .entry))) (floatsOf s (now (w .exit))) (numbersOf s (now (m .entry))) relaxBinding ⌝ }

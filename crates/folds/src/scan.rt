@@ -56,7 +56,8 @@ pub fn fold_row(
 )
     requires { ⌜ (r < s .rows) × HoldsF s (now w) × HoldsN s (now m) ⌝ }
     requires { ⌜ Standing (Written (now starts) (now index) (now coeff) (now cmp) (now rhs)) s r (floatsOf s (now w)) (numbersOf s (now m)) ⌝ }
-    ensures { λ _. ⌜ Turns (Written (now (starts .entry)) (now (index .entry)) (now (coeff .entry)) (now (cmp .entry)) (now (rhs .entry))) s r (floatsOf s (now (w .entry))) (numbersOf s (now (m .entry))) (floatsOf s (now (w .exit))) (numbersOf s (now (m .exit))) (λ M. foldFixed M r) ⌝ }
+    ensures { λ _. ⌜ Turns (Written (now (starts .entry)) (now (index .entry)) (now (coeff .entry)) (now (cmp .entry)) (now (rhs .entry))) s r
+        (floatsOf s (now (w .entry))) (numbersOf s (now (m .entry))) (floatsOf s (now (w .exit))) (numbersOf s (now (m .exit))) (λ M. foldFixed M r) ⌝ }
 {
     if folds_any(starts, w, m, s, r) {
         fold_fixed(starts, index, coeff, cmp, rhs, w, m, s, r);

@@ -1,4 +1,5 @@
-// `Row::as_written`: the input row put into the working slices, over whatever stands there.
+// `Row::as_written` of src/presolve/model.rs of microlp 0.7.0, changed: the input row put into the
+// working slices, over whatever stands there.
 ghost use mathlib.Core.Path.{_≡_};
 ghost use Prim.Native.Nat.{_<_, _≤_};
 ghost use lib.Dec.{eqb};
@@ -35,7 +36,8 @@ fn write_terms(
     }
 }
 
-// The sides of a row: 0 is an equation, 1 a row from below, 2 from above.
+// The sides of a row, by its comparison: an Eq row (0) has its right side on both, a Le row (1) is bounded
+// from above alone, a Ge row (2) from below alone. This is the lower side.
 fn lower_side(cmp: &[u8], rhs: &[f64], r: usize) -> f64
     requires { ⌜ (r < length (now cmp)) × (r < length (now rhs)) ⌝ }
     ensures { λ z. ⌜ z ≡ choose (eqb (getD (now (cmp .entry)) r 0) 1) -∞f (getD (now (rhs .entry)) r nan) ⌝ }
@@ -46,6 +48,7 @@ fn lower_side(cmp: &[u8], rhs: &[f64], r: usize) -> f64
     rhs[r]
 }
 
+// The upper side of a row, by its comparison.
 fn upper_side(cmp: &[u8], rhs: &[f64], r: usize) -> f64
     requires { ⌜ (r < length (now cmp)) × (r < length (now rhs)) ⌝ }
     ensures { λ z. ⌜ z ≡ choose (eqb (getD (now (cmp .entry)) r 0) 2) ∞f (getD (now (rhs .entry)) r nan) ⌝ }
@@ -93,7 +96,8 @@ pub fn as_written(
 )
     requires { ⌜ (r < s .rows) × HoldsF s (now w) × HoldsN s (now m) ⌝ }
     requires { ⌜ Given (Written (now starts) (now index) (now coeff) (now cmp) (now rhs)) s ⌝ }
-    ensures { λ _. ⌜ Writes (Written (now (starts .entry)) (now (index .entry)) (now (coeff .entry)) (now (cmp .entry)) (now (rhs .entry))) s r (floatsOf s (now (w .entry))) (numbersOf s (now (m .entry))) (floatsOf s (now (w .exit))) (numbersOf s (now (m .exit))) (λ M. asWritten M r) ⌝ }
+    ensures { λ _. ⌜ Writes (Written (now (starts .entry)) (now (index .entry)) (now (coeff .entry)) (now (cmp .entry)) (now (rhs .entry))) s r
+        (floatsOf s (now (w .entry))) (numbersOf s (now (m .entry))) (floatsOf s (now (w .exit))) (numbersOf s (now (m .exit))) (λ M. asWritten M r) ⌝ }
 {
     let a = starts[r];
     let e = starts[r + 1];

@@ -32,7 +32,8 @@ use Rattle.rows.specs.Steps.{acts-as}
 use Rattle.rows.specs.Loop.{Turning, turning-start, term-still, len-is}
 
 -- ---- fix_term
-pub fix-corner : {P : Model → Type 0} {s : Shape} {f f′ : Floats} {n n′ : Numbers} (minCorner : Bool) (v : ℕ) (a : Float) {lo hi x : Float} → lo ≡ getD (f .elo) v nan → hi ≡ getD (f .ehi) v nan → x ≡ cornerOf minCorner a lo hi
+pub fix-corner : {P : Model → Type 0} {s : Shape} {f f′ : Floats} {n n′ : Numbers} (minCorner : Bool) (v : ℕ) (a : Float) {lo hi x : Float}
+    → lo ≡ getD (f .elo) v nan → hi ≡ getD (f .ehi) v nan → x ≡ cornerOf minCorner a lo hi
     → Acts P s f n f′ n′ (λ M. fix M v x) → Acts P s f n f′ n′ (λ M w. fix M v (corner minCorner w (term v a)) w)
 fix-corner minCorner v a {lo} {hi} {x} e₁ e₂ e₃ t =
     acts-as
@@ -55,7 +56,8 @@ has-at (t ∷ ts) (suc j) p = rw (has-at ts j (omega arith)) (or-true (eqb (t .v
 apart : {ts : List Term} → Distinct ts → (i j : ℕ) → i < j → j < length ts → getD ts j noTerm .var ≢ getD ts i noTerm .var
 apart distinct[] i j p q = absurd (omega arith)
 apart (distinct∷ {t} {ts} e d) zero zero p q = absurd (omega arith)
-apart (distinct∷ {t} {ts} e d) zero (suc j) p q = λ z. absurd (let b : hasTerm (t .var) ts ≡ true = ap (λ (v : ℕ). hasTerm v ts) (sym z) ∙ has-at ts j (omega arith) in let y : _≡_ {A = ℕ} 0 1 = cc (b, e) in omega arith)
+apart (distinct∷ {t} {ts} e d) zero (suc j) p q = λ z. absurd (let b : hasTerm (t .var) ts ≡ true = ap (λ (v : ℕ). hasTerm v ts) (sym z)
+    ∙ has-at ts j (omega arith) in let y : _≡_ {A = ℕ} 0 1 = cc (b, e) in omega arith)
 apart (distinct∷ {t} {ts} e d) (suc i) zero p q = absurd (omega arith)
 apart (distinct∷ {t} {ts} e d) (suc i) (suc j) p q = apart d i j (omega arith) (omega arith)
 
@@ -84,7 +86,8 @@ corner-same : (minCorner : Bool) (w u : Work) (v : ℕ) (y : Float) → at (u .e
 corner-same minCorner w u v y e₁ e₂ = sym (corner-of minCorner u (term v y)) ∙ cc (e₁, e₂) ∙ corner-of minCorner w (term v y)
 
 -- one more is fixed
-module _ (M : Model) (r : ℕ) (minCorner : Bool) (i v : ℕ) (y : Float) (w u : Work) (K : Fixing r minCorner i M w u) (d : Distinct (rowOf w r .terms ++ rowOf w r .folded)) (m : i < length (rowOf w r .terms)) (e : getD (rowOf w r .terms) i noTerm ≡ term v y) where
+module _ (M : Model) (r : ℕ) (minCorner : Bool) (i v : ℕ) (y : Float) (w u : Work) (K : Fixing r minCorner i M w u)
+    (d : Distinct (rowOf w r .terms ++ rowOf w r .folded)) (m : i < length (rowOf w r .terms)) (e : getD (rowOf w r .terms) i noTerm ≡ term v y) where
   abbrev ts : List Term
   ts = rowOf w r .terms
 
@@ -102,14 +105,17 @@ module _ (M : Model) (r : ℕ) (minCorner : Bool) (i v : ℕ) (y : Float) (w u :
 
   corner-is : x ≡ corner minCorner w (term v y)
   corner-is =
-      corner-same minCorner w u v y (subst (λ (q : ℕ). at (u .elo) q ≡ at (w .elo) q) v-is (K .los i (omega arith) m)) (subst (λ (q : ℕ). at (u .ehi) q ≡ at (w .ehi) q) v-is (K .his i (omega arith) m))
+      corner-same minCorner w u v y (subst (λ (q : ℕ). at (u .elo) q ≡ at (w .elo) q) v-is (K .los i (omega arith) m))
+      (subst (λ (q : ℕ). at (u .ehi) q ≡ at (w .ehi) q) v-is (K .his i (omega arith) m))
 
   fixed-one : Fixing r minCorner (i + 1) M w (fix M v x u)
   fixed-one =
       record {
         rows = fix-leaves rows-blind M v x u ∙ K .rows;
-        los = λ j p q. ap (λ (l : List Float). getD l (getD ts j noTerm .var) nan) (fix-elo M v x u) ∙ getD-set-other (u .elo) v (getD ts j noTerm .var) x nan (other-var j p q) ∙ K .los j (omega arith) q;
-        his = λ j p q. ap (λ (l : List Float). getD l (getD ts j noTerm .var) nan) (fix-ehi M v x u) ∙ getD-set-other (u .ehi) v (getD ts j noTerm .var) x nan (other-var j p q) ∙ K .his j (omega arith) q;
+        los = λ j p q. ap (λ (l : List Float). getD l (getD ts j noTerm .var) nan) (fix-elo M v x u) ∙ getD-set-other (u .elo) v (getD ts j noTerm .var) x nan
+            (other-var j p q) ∙ K .los j (omega arith) q;
+        his = λ j p q. ap (λ (l : List Float). getD l (getD ts j noTerm .var) nan) (fix-ehi M v x u) ∙ getD-set-other (u .ehi) v (getD ts j noTerm .var) x nan
+            (other-var j p q) ∙ K .his j (omega arith) q;
         rest =
             ap (λ (q : ℕ). fixAll M minCorner w (drop q ts) (fix M v x u)) (add-one i)
             ∙ ap (λ (q : Float). fixAll M minCorner w (drop (suc i) ts) (fix M v q u)) corner-is
@@ -118,7 +124,8 @@ module _ (M : Model) (r : ℕ) (minCorner : Bool) (i v : ℕ) (y : Float) (w u :
             ∙ K .rest;
       }
 
-module _ {P : Model → Type 0} {s : Shape} {f₀ f : Floats} {n₀ n : Numbers} {ss : List ℕ} {r : ℕ} {minCorner : Bool} {i : ℕ} (q : (M : Model) → P M → Spans ss M) (p : r < s .rows) (a : Alive n₀ r) (T : Turning P s f₀ n₀ f n (Fixing r minCorner i)) where
+module _ {P : Model → Type 0} {s : Shape} {f₀ f : Floats} {n₀ n : Numbers} {ss : List ℕ} {r : ℕ} {minCorner : Bool} {i : ℕ} (q : (M : Model) → P M → Spans ss M)
+    (p : r < s .rows) (a : Alive n₀ r) (T : Turning P s f₀ n₀ f n (Fixing r minCorner i)) where
   pub fixing-turn : {f′ : Floats} {n′ : Numbers} {l v : ℕ} {y : Float} → l ≡ getD (n₀ .len) r 0 → i < l → v ≡ getD (n .vars) (getD ss r 0 + i) 0 → y ≡ getD (f .coeffs) (getD ss r 0 + i) nan
       → Acts P s f n f′ n′ (λ M u. fix M v (corner minCorner u (term v y)) u) → Turning P s f₀ n₀ f′ n′ (Fixing r minCorner (i + 1))
   fixing-turn {v = v} {y} el il ev ey t =

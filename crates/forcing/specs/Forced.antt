@@ -33,7 +33,8 @@ use Rattle.readers.specs.RowAt.{row-at, row-ready, live-place}
 use Rattle.rows.specs.Knowing.{Looks, looks-spans, looks-domains, of-call}
 
 -- ---- forced_term
-pub forced-is : {ds ss : List ℕ} {s : Shape} {f : Floats} (r v : ℕ) (a sliver mag : Float) {l : ℕ} {int z : Bool} {lo hi : Float} → l ≡ getD ss (r + 1) 0 - getD ss r 0 → ReadsM (Domains ds) s int (λ M. isInt M v)
+pub forced-is : {ds ss : List ℕ} {s : Shape} {f : Floats} (r v : ℕ) (a sliver mag : Float) {l : ℕ} {int z : Bool} {lo hi : Float}
+    → l ≡ getD ss (r + 1) 0 - getD ss r 0 → ReadsM (Domains ds) s int (λ M. isInt M v)
     → lo ≡ getD (f .elo) v nan → hi ≡ getD (f .ehi) v nan → Says (s .feas) l z (λ M q. forcedBy M q int a lo hi sliver mag) → ReadsF (Looks ds ss) s f z (λ M w. forcedTerm M r sliver mag w (term v a))
 forced-is r v a sliver mag el ei e₁ e₂ ez =
     record {
@@ -51,12 +52,14 @@ unfolding allForced
 forced-cons M r sliver mag w t ts = refl
 
 -- a live term's place is small
-pub live-small : {P : Model → Type 0} {s : Shape} {f : Floats} {n : Numbers} {ss : List ℕ} {r i l : ℕ} → Ready P s f n → ((M : Model) → P M → Spans ss M) → r < s .rows → Alive n r → l ≡ getD (n .len) r 0 → i < l → getD ss r 0 + i < 65536
+pub live-small : {P : Model → Type 0} {s : Shape} {f : Floats} {n : Numbers} {ss : List ℕ} {r i l : ℕ} → Ready P s f n → ((M : Model) → P M → Spans ss M)
+    → r < s .rows → Alive n r → l ≡ getD (n .len) r 0 → i < l → getD ss r 0 + i < 65536
 live-small {i = i} R q p a el il = omega (arith, live-place R q p a {j = i} (omega (arith, el, il)), row-ready R q p a .small)
 
 -- the terms from i on are left
 pub record Testing (ds ss : List ℕ) (s : Shape) (f : Floats) (n : Numbers) (r : ℕ) (sliver mag : Float) (i : ℕ) : Type 0 where
-  pub rest : (M : Model) (o : List ℕ) (k : ℕ) (w : Work) → Looks ds ss M → Call M s → Shows M f n o w → Inv M k w → allForced M r sliver mag w (drop i (rowOf w r .terms)) ≡ allForced M r sliver mag w (rowOf w r .terms)
+  pub rest : (M : Model) (o : List ℕ) (k : ℕ) (w : Work) → Looks ds ss M → Call M s → Shows M f n o w → Inv M k w
+      → allForced M r sliver mag w (drop i (rowOf w r .terms)) ≡ allForced M r sliver mag w (rowOf w r .terms)
 
 pub testing-start : {ds ss : List ℕ} {s : Shape} {f : Floats} {n : Numbers} {r : ℕ} {sliver mag : Float} → Testing ds ss s f n r sliver mag 0
 testing-start = record { rest = λ M o k w p c h i. refl }
@@ -64,7 +67,8 @@ testing-start = record { rest = λ M o k w p c h i. refl }
 module _ {ds ss : List ℕ} {s : Shape} {f : Floats} {n : Numbers} {r : ℕ} {sliver mag : Float} {i : ℕ} (p : r < s .rows) (a : Alive n r) (T : Testing ds ss s f n r sliver mag i) where
   module _ {l v : ℕ} {y : Float} {b : Bool} (el : l ≡ getD (n .len) r 0) (il : i < l) (ev : v ≡ getD (n .vars) (getD ss r 0 + i) 0) (ey : y ≡ getD (f .coeffs) (getD ss r 0 + i) nan)
       (t : ReadsF (Looks ds ss) s f b (λ M w. forcedTerm M r sliver mag w (term v y))) where
-    left-is : {M : Model} {o : List ℕ} {k : ℕ} {w : Work} → Looks ds ss M → Call M s → Shows M f n o w → Inv M k w → (b && allForced M r sliver mag w (drop (suc i) (rowOf w r .terms))) ≡ allForced M r sliver mag w (rowOf w r .terms)
+    left-is : {M : Model} {o : List ℕ} {k : ℕ} {w : Work} → Looks ds ss M → Call M s → Shows M f n o w → Inv M k w
+        → (b && allForced M r sliver mag w (drop (suc i) (rowOf w r .terms))) ≡ allForced M r sliver mag w (rowOf w r .terms)
     left-is {M} {o} {k} {w} q c h j =
         let ts = rowOf w r .terms in
         let d = row-at c h p a j (looks-spans M q) in
@@ -103,20 +107,24 @@ module _ {ds ss : List ℕ} {s : Shape} {f : Floats} {n : Numbers} {r : ℕ} {sl
       }
 
 -- ---- forcing_at
-fits-is : {ds ss : List ℕ} {s : Shape} (r : ℕ) (sliver mag : Float) {l : ℕ} {b : Bool} {M : Model} (w : Work) (ts : List Term) → l ≡ getD ss (r + 1) 0 - getD ss r 0 → Says (s .feas) l b (λ M q. sliverFits M q sliver mag) → Looks ds ss M → Call M s
+fits-is : {ds ss : List ℕ} {s : Shape} (r : ℕ) (sliver mag : Float) {l : ℕ} {b : Bool} {M : Model} (w : Work) (ts : List Term)
+    → l ≡ getD ss (r + 1) 0 - getD ss r 0 → Says (s .feas) l b (λ M q. sliverFits M q sliver mag) → Looks ds ss M → Call M s
     → forcingAt M r sliver mag w ts ≡ (b && allForced M r sliver mag w ts)
 fits-is r sliver mag {M = M} w ts el eb p c = sym (forcing-of M r sliver mag w ts) ∙ ap (λ (x : Bool). x && allForced M r sliver mag w ts) (sym (eb .of M r (of-call c (looks-spans M p) el)))
 
-module _ {ds ss : List ℕ} {s : Shape} {f : Floats} {n : Numbers} (r : ℕ) (sliver mag : Float) {l : ℕ} {b : Bool} (el : l ≡ getD ss (r + 1) 0 - getD ss r 0) (eb : Says (s .feas) l b (λ M q. sliverFits M q sliver mag)) where
+module _ {ds ss : List ℕ} {s : Shape} {f : Floats} {n : Numbers} (r : ℕ) (sliver mag : Float) {l : ℕ} {b : Bool} (el : l ≡ getD ss (r + 1) 0 - getD ss r 0)
+    (eb : Says (s .feas) l b (λ M q. sliverFits M q sliver mag)) where
   pub forcing-not : b ≡ false → Reads (Looks ds ss) s f n false (λ M w. forcingAt M r sliver mag w (rowOf w r .terms))
   forcing-not e = record { reads = λ M o k w p c h i. fits-is r sliver mag w (rowOf w r .terms) el eb p c ∙ ap (λ (x : Bool). x && allForced M r sliver mag w (rowOf w r .terms)) e }
 
-  pub forcing-all : {z : Bool} → b ≡ true → Reads (Looks ds ss) s f n z (λ M w. allForced M r sliver mag w (rowOf w r .terms)) → Reads (Looks ds ss) s f n z (λ M w. forcingAt M r sliver mag w (rowOf w r .terms))
+  pub forcing-all : {z : Bool} → b ≡ true → Reads (Looks ds ss) s f n z (λ M w. allForced M r sliver mag w (rowOf w r .terms)) → Reads (Looks ds ss) s f n z
+      (λ M w. forcingAt M r sliver mag w (rowOf w r .terms))
   forcing-all e t =
       record { reads = λ M o k w p c h i. fits-is r sliver mag w (rowOf w r .terms) el eb p c ∙ ap (λ (x : Bool). x && allForced M r sliver mag w (rowOf w r .terms)) e ∙ t .reads M o k w p c h i }
 
 -- ---- forces_min and forces_max
-module _ {ds ss : List ℕ} {s : Shape} {f : Floats} {n : Numbers} (r : ℕ) (act e : Activity) {x : Limits} {l : ℕ} {b : Bool} (a : Alive n r) (lim : ReadsLimits s f r x) (el : l ≡ getD ss (r + 1) 0 - getD ss r 0) where
+module _ {ds ss : List ℕ} {s : Shape} {f : Floats} {n : Numbers} (r : ℕ) (act e : Activity) {x : Limits} {l : ℕ} {b : Bool} (a : Alive n r)
+    (lim : ReadsLimits s f r x) (el : l ≡ getD ss (r + 1) 0 - getD ss r 0) where
   module _ (eb : Says (s .feas) l b (λ M q. nearMin M q (bare x) act)) where
     near-min-is : {M : Model} {o : List ℕ} {w : Work} → Looks ds ss M → Call M s → Shows M f n o w → nearMin M r (rowOf w r) act ≡ b
     near-min-is {M} {o} {w} p c h = sym (eb .of M r (of-call c (looks-spans M p) el) ∙ near-min-of M r act (lim .has M n o w c h a))
@@ -129,7 +137,8 @@ module _ {ds ss : List ℕ} {s : Shape} {f : Floats} {n : Numbers} (r : ℕ) (ac
     unfolding forcesMin
     min-open t u = record { reads = λ M o k w p c h i. rw (near-min-is p c h ∙ t, ne-eqb (e .ninfL) 0 u) }
 
-    pub min-at : {mag : Float} {z : Bool} → b ≡ true → e .ninfL ≡ 0 → mag ≡ magL (bare x) e → Reads (Looks ds ss) s f n z (λ M w. forcingAt M r (x .hi ⊖ e .l) mag w (rowOf w r .terms)) → Reads (Looks ds ss) s f n z (λ M w. forcesMin M r (rowOf w r) act e w)
+    pub min-at : {mag : Float} {z : Bool} → b ≡ true → e .ninfL ≡ 0 → mag ≡ magL (bare x) e → Reads (Looks ds ss) s f n z
+        (λ M w. forcingAt M r (x .hi ⊖ e .l) mag w (rowOf w r .terms)) → Reads (Looks ds ss) s f n z (λ M w. forcesMin M r (rowOf w r) act e w)
     unfolding forcesMin
     min-at {mag} t u g d =
         record {
@@ -151,7 +160,8 @@ module _ {ds ss : List ℕ} {s : Shape} {f : Floats} {n : Numbers} (r : ℕ) (ac
     unfolding forcesMax
     max-open t u = record { reads = λ M o k w p c h i. rw (near-max-is p c h ∙ t, ne-eqb (e .ninfU) 0 u) }
 
-    pub max-at : {mag : Float} {z : Bool} → b ≡ true → e .ninfU ≡ 0 → mag ≡ magU (bare x) e → Reads (Looks ds ss) s f n z (λ M w. forcingAt M r (e .u ⊖ x .lo) mag w (rowOf w r .terms)) → Reads (Looks ds ss) s f n z (λ M w. forcesMax M r (rowOf w r) act e w)
+    pub max-at : {mag : Float} {z : Bool} → b ≡ true → e .ninfU ≡ 0 → mag ≡ magU (bare x) e → Reads (Looks ds ss) s f n z
+        (λ M w. forcingAt M r (e .u ⊖ x .lo) mag w (rowOf w r .terms)) → Reads (Looks ds ss) s f n z (λ M w. forcesMax M r (rowOf w r) act e w)
     unfolding forcesMax
     max-at {mag} t u g d =
         record {

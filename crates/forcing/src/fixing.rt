@@ -1,4 +1,5 @@
-// Fixing all variables of a row at a corner.
+// `forcing_fixings` of src/presolve/work.rs of microlp 0.7.0, changed: fixing all variables of a row at
+// a corner.
 ghost use Prim.Native.Nat.{_<_};
 ghost use Rattle.tolerances.specs.Tol.{term};
 ghost use Rattle.definition.specs.Bounds.{fix};
@@ -22,7 +23,8 @@ fn fix_term(
 )
     requires { ⌜ (v < s .vars) × HoldsF s (now w) × HoldsN s (now m) ⌝ }
     requires { ⌜ Ready (Adj (now adj)) s (floatsOf s (now w)) (numbersOf s (now m)) ⌝ }
-    ensures { λ _. ⌜ Acts (Adj (now (adj .entry))) s (floatsOf s (now (w .entry))) (numbersOf s (now (m .entry))) (floatsOf s (now (w .exit))) (numbersOf s (now (m .exit))) (λ M u. fix M v (definition.corner minCorner u (term v a)) u) ⌝ }
+    ensures { λ _. ⌜ Acts (Adj (now (adj .entry))) s (floatsOf s (now (w .entry))) (numbersOf s (now (m .entry))) (floatsOf s (now (w .exit)))
+        (numbersOf s (now (m .exit))) (λ M u. fix M v (definition.corner minCorner u (term v a)) u) ⌝ }
 {
     let lo = space::get_elo(w, s, v);
     let hi = space::get_ehi(w, s, v);
@@ -43,7 +45,8 @@ pub fn fix_all(
 )
     requires { ⌜ (r < s .rows) × HoldsF s (now w) × HoldsN s (now m) × Alive (numbersOf s (now m)) r ⌝ }
     requires { ⌜ Ready (Marks (now starts) (now adj)) s (floatsOf s (now w)) (numbersOf s (now m)) ⌝ }
-    ensures { λ _. ⌜ Acts (Marks (now (starts .entry)) (now (adj .entry))) s (floatsOf s (now (w .entry))) (numbersOf s (now (m .entry))) (floatsOf s (now (w .exit))) (numbersOf s (now (m .exit))) (λ M u. definition.fixAll M minCorner u (rowOf u r .terms) u) ⌝ }
+    ensures { λ _. ⌜ Acts (Marks (now (starts .entry)) (now (adj .entry))) s (floatsOf s (now (w .entry))) (numbersOf s (now (m .entry)))
+        (floatsOf s (now (w .exit))) (numbersOf s (now (m .exit))) (λ M u. definition.fixAll M minCorner u (rowOf u r .terms) u) ⌝ }
 {
     let a = starts[r];
     let n = space::get_len(m, s, r);

@@ -1,4 +1,5 @@
-// Whether a row forces all of its variables: a test of each term, over the emitted bounds.
+// `forcing_fixings` of src/presolve/work.rs of microlp 0.7.0, changed: whether a row forces all of its
+// variables, a test of each term over the emitted bounds.
 ghost use Prim.Native.Nat.{_<_};
 ghost use lib.ListN.{length};
 ghost use Rattle.tolerances.specs.Tol.{term};
@@ -46,7 +47,8 @@ fn all_forced(
 ) -> bool
     requires { ⌜ (r < s .rows) × HoldsF s (now w) × HoldsN s (now m) × Alive (numbersOf s (now m)) r ⌝ }
     requires { ⌜ Ready (Looks (now domain) (now starts)) s (floatsOf s (now w)) (numbersOf s (now m)) ⌝ }
-    ensures { λ z. ⌜ Reads (Looks (now (domain .entry)) (now (starts .entry))) s (floatsOf s (now (w .entry))) (numbersOf s (now (m .entry))) z (λ M u. definition.allForced M r sliver mag u (rowOf u r .terms)) ⌝ }
+    ensures { λ z. ⌜ Reads (Looks (now (domain .entry)) (now (starts .entry))) s (floatsOf s (now (w .entry))) (numbersOf s (now (m .entry))) z
+        (λ M u. definition.allForced M r sliver mag u (rowOf u r .terms)) ⌝ }
 {
     let a = starts[r];
     let n = space::get_len(m, s, r);
@@ -76,7 +78,8 @@ fn forcing_at(
 ) -> bool
     requires { ⌜ (r < s .rows) × HoldsF s (now w) × HoldsN s (now m) × Alive (numbersOf s (now m)) r ⌝ }
     requires { ⌜ Ready (Looks (now domain) (now starts)) s (floatsOf s (now w)) (numbersOf s (now m)) ⌝ }
-    ensures { λ z. ⌜ Reads (Looks (now (domain .entry)) (now (starts .entry))) s (floatsOf s (now (w .entry))) (numbersOf s (now (m .entry))) z (λ M u. definition.forcingAt M r sliver mag u (rowOf u r .terms)) ⌝ }
+    ensures { λ z. ⌜ Reads (Looks (now (domain .entry)) (now (starts .entry))) s (floatsOf s (now (w .entry))) (numbersOf s (now (m .entry))) z
+        (λ M u. definition.forcingAt M r sliver mag u (rowOf u r .terms)) ⌝ }
 {
     let n = rows::written_terms(starts, r);
     if formulas::sliver_fits(s.feas, n, sliver, mag) {
@@ -98,7 +101,8 @@ pub fn forces_min(
 ) -> bool
     requires { ⌜ (r < s .rows) × HoldsF s (now w) × HoldsN s (now m) × Alive (numbersOf s (now m)) r ⌝ }
     requires { ⌜ Ready (Looks (now domain) (now starts)) s (floatsOf s (now w)) (numbersOf s (now m)) ⌝ }
-    ensures { λ z. ⌜ Reads (Looks (now (domain .entry)) (now (starts .entry))) s (floatsOf s (now (w .entry))) (numbersOf s (now (m .entry))) z (λ M u. definition.forcesMin M r (rowOf u r) act e u) ⌝ }
+    ensures { λ z. ⌜ Reads (Looks (now (domain .entry)) (now (starts .entry))) s (floatsOf s (now (w .entry))) (numbersOf s (now (m .entry))) z
+        (λ M u. definition.forcesMin M r (rowOf u r) act e u) ⌝ }
 {
     let x = readers::limits(w, s, r);
     let n = rows::written_terms(starts, r);
@@ -125,7 +129,8 @@ pub fn forces_max(
 ) -> bool
     requires { ⌜ (r < s .rows) × HoldsF s (now w) × HoldsN s (now m) × Alive (numbersOf s (now m)) r ⌝ }
     requires { ⌜ Ready (Looks (now domain) (now starts)) s (floatsOf s (now w)) (numbersOf s (now m)) ⌝ }
-    ensures { λ z. ⌜ Reads (Looks (now (domain .entry)) (now (starts .entry))) s (floatsOf s (now (w .entry))) (numbersOf s (now (m .entry))) z (λ M u. definition.forcesMax M r (rowOf u r) act e u) ⌝ }
+    ensures { λ z. ⌜ Reads (Looks (now (domain .entry)) (now (starts .entry))) s (floatsOf s (now (w .entry))) (numbersOf s (now (m .entry))) z
+        (λ M u. definition.forcesMax M r (rowOf u r) act e u) ⌝ }
 {
     let x = readers::limits(w, s, r);
     let n = rows::written_terms(starts, r);

@@ -52,25 +52,29 @@ three false b c x y z = refl
 
 module _ (M : Model) (v : ℕ) (w : Work) where
   pub upper-int-of : (qi : Float)
-      → byMove (upperIntMove qi (at (w .ehi) v) (at (w .wlo) v)) (next w) (stop (w .counts)) (next (markTightened M v (withBounds (w .wlo) (set (w .whi) v (minf (at (w .whi) v) qi)) (w .elo) (set (w .ehi) v qi) w)))
+      → byMove (upperIntMove qi (at (w .ehi) v) (at (w .wlo) v)) (next w) (stop (w .counts))
+      (next (markTightened M v (withBounds (w .wlo) (set (w .whi) v (minf (at (w .whi) v) qi)) (w .elo) (set (w .ehi) v qi) w)))
       ≡ upperInt M v qi w
   unfolding upperIntMove upperInt
   upper-int-of qi = two _ _ _ _ _
 
   pub lower-int-of : (qi : Float)
-      → byMove (lowerIntMove qi (at (w .elo) v) (at (w .whi) v)) (next w) (stop (w .counts)) (next (markTightened M v (withBounds (set (w .wlo) v (maxf (at (w .wlo) v) qi)) (w .whi) (set (w .elo) v qi) (w .ehi) w)))
+      → byMove (lowerIntMove qi (at (w .elo) v) (at (w .whi) v)) (next w) (stop (w .counts))
+      (next (markTightened M v (withBounds (set (w .wlo) v (maxf (at (w .wlo) v) qi)) (w .whi) (set (w .elo) v qi) (w .ehi) w)))
       ≡ lowerInt M v qi w
   unfolding lowerIntMove lowerInt
   lower-int-of qi = two _ _ _ _ _
 
   pub upper-real-of : (nq : Float) → M .params ≡ params
-      → byMove (upperRealMove nq (at (w .whi) v) (at (w .wlo) v) (boundTol M w v false)) (next w) (stop (w .counts)) (next (markTightened M v (withBounds (w .wlo) (set (w .whi) v nq) (w .elo) (w .ehi) w)))
+      → byMove (upperRealMove nq (at (w .whi) v) (at (w .wlo) v) (boundTol M w v false)) (next w) (stop (w .counts))
+      (next (markTightened M v (withBounds (w .wlo) (set (w .whi) v nq) (w .elo) (w .ehi) w)))
       ≡ upperReal M v nq w
   unfolding upperRealMove upperReal
   upper-real-of nq e = rw e (three _ _ _ _ _ _)
 
   pub lower-real-of : (nq : Float) → M .params ≡ params
-      → byMove (lowerRealMove nq (at (w .wlo) v) (at (w .whi) v) (boundTol M w v true)) (next w) (stop (w .counts)) (next (markTightened M v (withBounds (set (w .wlo) v nq) (w .whi) (w .elo) (w .ehi) w)))
+      → byMove (lowerRealMove nq (at (w .wlo) v) (at (w .whi) v) (boundTol M w v true)) (next w) (stop (w .counts))
+      (next (markTightened M v (withBounds (set (w .wlo) v nq) (w .whi) (w .elo) (w .ehi) w)))
       ≡ lowerReal M v nq w
   unfolding lowerRealMove lowerReal
   lower-real-of nq e = rw e (three _ _ _ _ _ _)

@@ -40,7 +40,8 @@ module _ (M : Model) where
   unfoldable pub rewriteAt : Bool → defs.Form → Float → Row → Activity → Float → defs.Rewrite
   rewriteAt bin f nz row act a = choose (bin && not (eq a 0f)) (defs.vacuous M f nz row act a) defs.keeps
 
-  pub rewrite-of : {x : Limits} {row : Row} (f : defs.Form) (nz : Float) (w : Work) (act : Activity) (t : Term) → Has x row → rewriteAt (binary M w (t .var)) f nz (bare x) act (t .coeff) ≡ rewriteOf M f nz w row act t
+  pub rewrite-of : {x : Limits} {row : Row} (f : defs.Form) (nz : Float) (w : Work) (act : Activity) (t : Term) → Has x row
+      → rewriteAt (binary M w (t .var)) f nz (bare x) act (t .coeff) ≡ rewriteOf M f nz w row act t
   unfolding rewriteAt rewriteOf
   rewrite-of f nz w act t h = cc (vacuous-of M f nz act (t .coeff) h)
 

@@ -2,7 +2,7 @@
 use Prim.Native.Nat.{ℕ}
 use native.Mathlib.Omega.{arith}
 use mathlib.Core.Path.{_≡_, refl, sym, ap, _∙_, subst}
-use mathlib.Core.Bool.{Bool, true, false, _||_}
+use mathlib.Core.Bool.{Bool, true, false, _||_, _&&_}
 use lib.Dec.{T}
 use lib.Ieee.{Float, binary64, nan, inf, fin, lt, le, isNan, fits, ofBits}
 use lib.Ieee.Bits.{is-true}
@@ -30,22 +30,46 @@ pub relax-held : (M : Model) (r : ℕ) (row : Row) (side : Side) (c rest a : Flo
 unfolding relaxOf
 relax-held M r row side c rest a = fits-div _ _
 
--- ---- a variable stays as it is, by its domain
+-- the test for it
+unfoldable pub notNegative : Float → Float → Float → Bool
+notNegative feas mag slack = le 0f feas && le 0f mag && le 0f slack
+
+-- ---- a variable stays as it is, by its domain: an integer one by its emitted bound, another by its working bound
+unfoldable pub upperStill : Bool → Float → Float → Float → Bool
+upperStill int q ehi whi = choose int (le (ehi ⊖ ½f) (floor q)) (le whi q)
+
+unfoldable pub lowerStill : Bool → Float → Float → Float → Bool
+lowerStill int q elo wlo = choose int (le (ceil q) (elo ⊕ ½f)) (le q wlo)
+
 pub record UpperStays (int : Bool) (q ehi whi : Float) : Type 0 where
   pub leaves : (t wlo tol : Float) → Held t → NotNeg t → choose int (upperIntMove (floor (q ⊕ t)) ehi wlo) (upperRealMove (q ⊕ t) whi wlo tol) ≡ Leave
 
 pub record LowerStays (int : Bool) (q elo wlo : Float) : Type 0 where
   pub leaves : (t whi tol : Float) → Held t → NotNeg t → choose int (lowerIntMove (ceil (q ⊖ t)) elo whi) (lowerRealMove (q ⊖ t) wlo whi tol) ≡ Leave
 
-skips : {A : Type 0} {b : Bool} (x y : A) → b ≡ false → choose b x y ≡ y
+pub skips : {A : Type 0} {b : Bool} (x y : A) → b ≡ false → choose b x y ≡ y
 unfolding choose
 skips x y e = rw e
 
-takes : {A : Type 0} {b : Bool} (x y : A) → b ≡ true → choose b x y ≡ x
+pub takes : {A : Type 0} {b : Bool} (x y : A) → b ≡ true → choose b x y ≡ x
 unfolding choose
 takes x y e = rw e
 
--- ---- for the functions' proofs: a float in hand is held, and a test that failed tells nothing
+-- ---- for the functions' proofs: the tests, by their ways
+module _ (feas mag slack : Float) where
+  pub negative-first : le 0f feas ≡ false → false ≡ notNegative feas mag slack
+  unfolding notNegative
+  negative-first e = simp e
+
+  pub negative-second : le 0f feas ≡ true → le 0f mag ≡ false → false ≡ notNegative feas mag slack
+  unfolding notNegative
+  negative-second e h = simp (e, h)
+
+  pub negative-third : le 0f feas ≡ true → le 0f mag ≡ true → le 0f slack ≡ notNegative feas mag slack
+  unfolding notNegative
+  negative-third e h = simp (e, h)
+
+-- ---- a float in hand is held, and a test that failed tells nothing
 pub held-so : {x : Float} → fits binary64 x ≡ true → Held x
 held-so e = record { fits = subst T (sym e) tt }
 
@@ -113,7 +137,8 @@ unfolding relaxOf budget
 relaxes-so hf hm hs pf pm ps =
     record {
       relaxed = λ M r row side c rest a em es ef ha.
-          relaxation-notneg (M .feas) _ (nnz M r) (subst Held (sym ef) hf) (ap (le 0f) ef ∙ pf) (side .abs) (side .slack) a (subst Held (sym em) hm) (subst Held (sym es) hs) ha (ap (le 0f) em ∙ pm) (ap (le 0f) es ∙ ps);
+          relaxation-notneg (M .feas) _ (nnz M r) (subst Held (sym ef) hf) (ap (le 0f) ef ∙ pf) (side .abs) (side .slack) a (subst Held (sym em) hm)
+          (subst Held (sym es) hs) ha (ap (le 0f) em ∙ pm) (ap (le 0f) es ∙ ps);
     }
 
 -- ---- the four ways

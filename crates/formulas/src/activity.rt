@@ -1,4 +1,5 @@
-// A row's activity, term by term.
+// `Work::activity` and `term_range` of src/presolve/work.rs and model.rs of microlp 0.7.0, changed: a
+// row's activity, term by term.
 ghost use mathlib.Core.Path.{_≡_};
 ghost use lib.Ieee.{lt};
 ghost use Rattle.floats.specs.Num.{choose, 0f};

@@ -1,4 +1,4 @@
-// The start of presolve: integer bounds rounded.
+// src/presolve/mod.rs of microlp 0.7.0, changed: the start of `presolve`, integer bounds rounded.
 ghost use mathlib.Core.Path.{_≡_};
 ghost use Rattle.definition.specs.Begin as begin;
 

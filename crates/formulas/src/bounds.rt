@@ -1,8 +1,9 @@
-// What an implied bound does to its variable: nothing, a proof that no point is left, or a new bound.
+// `emit_bounds`, `tighten_upper` and `tighten_lower` of src/presolve/work.rs of microlp 0.7.0, changed:
+// what an implied bound does to its variable: nothing, a proof that no point is left, or a new bound.
 ghost use mathlib.Core.Path.{_≡_};
 ghost use mathlib.Core.Bool.{true};
 ghost use Rattle.formulas.specs.Moves as moves;
-ghost use Rattle.formulas.specs.Stays.{UpperStays, LowerStays};
+ghost use Rattle.formulas.specs.Stays.{upperStill, lowerStill, UpperStays, LowerStays};
 use crate::Move;
 use crate::params::IMPROVE_REL;
 
@@ -35,7 +36,7 @@ pub fn upper_real_move(nq: f64, whi: f64, wlo: f64, tol: f64) -> Move
     Move::Leave
 }
 
-// The lower bounds likewise.
+// An integer variable's lower bound, rounded: qi.
 pub fn lower_int_move(qi: f64, elo: f64, whi: f64) -> Move
     ensures { λ z. ⌜ z ≡ moves.lowerIntMove qi elo whi ⌝ }
 {
@@ -63,9 +64,10 @@ pub fn lower_real_move(nq: f64, wlo: f64, whi: f64, tol: f64) -> Move
     Move::Leave
 }
 
-// Whether an implied bound q leaves its variable as it is, whatever it is relaxed by: most of them do, and then what it is relaxed
-// by need not be computed.
+// Whether an implied bound q is at or outside the bound that it would move, as most are. Such a q leaves its variable as it is,
+// whatever it is relaxed by, which need then not be computed.
 pub fn upper_stays(int: bool, q: f64, ehi: f64, whi: f64) -> bool
+    ensures { λ z. ⌜ z ≡ upperStill int q ehi whi ⌝ }
     ensures { λ z. ⌜ (z ≡ true → UpperStays int q ehi whi) ⌝ }
 {
     if int {
@@ -75,6 +77,7 @@ pub fn upper_stays(int: bool, q: f64, ehi: f64, whi: f64) -> bool
 }
 
 pub fn lower_stays(int: bool, q: f64, elo: f64, wlo: f64) -> bool
+    ensures { λ z. ⌜ z ≡ lowerStill int q elo wlo ⌝ }
     ensures { λ z. ⌜ (z ≡ true → LowerStays int q elo wlo) ⌝ }
 {
     if int {

@@ -1,4 +1,5 @@
-// Integer and fixed variables, and dual fixing's tests of one variable.
+// `is_int_domain`, `fixed` and the tests of `dual_fix` of src/presolve/model.rs and work.rs of microlp
+// 0.7.0, changed: of one variable.
 ghost use mathlib.Core.Path.{_≡_};
 ghost use Rattle.formulas.specs.Fixing.{intDomain, mip, fixedAt, blocksAt, fallsAt, risesAt};
 

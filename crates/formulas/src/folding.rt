@@ -1,4 +1,5 @@
-// The room that a row's rewrites take.
+// `rewrite_room` of src/presolve/work.rs of microlp 0.7.0, changed: the room that a row's rewrites
+// take.
 ghost use Rattle.definition.specs.Folds as folds;
 ghost use Rattle.formulas.specs.Bare.{ByTol};
 

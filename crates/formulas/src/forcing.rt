@@ -1,4 +1,5 @@
-// Forcing: whether a row leaves a term's variable one whole number, and which end that is.
+// `forcing_fixings` of src/presolve/work.rs of microlp 0.7.0, changed: whether a row leaves a term's
+// variable one whole number, and which end that is.
 ghost use mathlib.Core.Path.{_≡_};
 ghost use Rattle.formulas.specs.Bare.{Says};
 ghost use Rattle.formulas.specs.Forcing.{forcedBy, sliverFits, cornerOf};

@@ -1,10 +1,11 @@
-// The implied bound of a term from one side of its row.
+// `primal_wave` of src/presolve/work.rs of microlp 0.7.0, changed: the implied bound of a term from one
+// side of its row.
 ghost use mathlib.Core.Path.{_≡_};
 ghost use mathlib.Core.Bool.{true};
 ghost use Rattle.definition.specs.Implied as implied;
 ghost use Rattle.formulas.specs.Bare.{bare, Says};
 ghost use Rattle.formulas.specs.Implied.{restIs, hiOf, loOf, boundsAbove, quotientOf, relaxOf};
-ghost use Rattle.formulas.specs.Stays.{Relaxes};
+ghost use Rattle.formulas.specs.Stays.{notNegative, Relaxes};
 use crate::Limits;
 use crate::Rest;
 use crate::Side;
@@ -64,7 +65,7 @@ pub fn rest_of(side: Side, c: f64) -> Rest
     Rest::Unbounded
 }
 
-pub fn finite_abs(c: f64) -> f64
+fn finite_abs(c: f64) -> f64
     ensures { λ z. ⌜ z ≡ implied.finiteAbs c ⌝ }
 {
     if floats::is_finite(c) {
@@ -91,8 +92,10 @@ pub fn relaxation(feas: f64, terms: usize, x: Limits, side: Side, c: f64, rest: 
     (budget(feas, terms, m) + ROUNDOFF_FLOOR * side.abs + side.slack) / floats::absolute(a)
 }
 
-// Whether that is not negative, whatever the row's magnitude is.
+// Whether the tolerance and the side's own two numbers are not negative: then what a bound is relaxed by is not, whatever the row's
+// magnitude is.
 pub fn relaxes(feas: f64, abs: f64, slack: f64) -> bool
+    ensures { λ z. ⌜ z ≡ notNegative feas abs slack ⌝ }
     ensures { λ z. ⌜ (z ≡ true → Relaxes feas abs slack) ⌝ }
 {
     if feas >= 0.0 {

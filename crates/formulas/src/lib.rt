@@ -1,5 +1,7 @@
-// The parts of presolve that are functions of numbers and records alone: no slice is read or
-// written. Each contract is an equation with a function of the definition, on every input.
+// src/presolve/work.rs of microlp 0.7.0, changed: the parts of presolve that are functions of numbers
+// and records alone, each float operation once and in the Rust's order.
+// No slice is read or written. Each contract is an equation with a function of the definition, on every
+// input; the definition's files say why each step is right.
 mod activity;
 mod begin;
 mod bounds;
@@ -38,7 +40,6 @@ pub use forcing::corner;
 pub use forcing::forced;
 pub use forcing::sliver_fits;
 pub use implied::bounds_above;
-pub use implied::finite_abs;
 pub use implied::hi_of;
 pub use implied::lo_of;
 pub use implied::quotient;
@@ -55,49 +56,27 @@ pub use params::REDUNDANT_MARGIN;
 pub use params::max_rounds;
 pub use params::max_waves;
 pub use rewrites::act_after;
-pub use rewrites::after_bound;
-pub use rewrites::after_coeff;
 pub use rewrites::binary;
 pub use rewrites::form_of;
-pub use rewrites::lower_ge;
-pub use rewrites::raise_le;
 pub use rewrites::rewrite_count;
 pub use rewrites::rewrite_of;
-pub use rewrites::shrink_ge;
-pub use rewrites::shrink_le;
 pub use rewrites::spared;
-pub use rewrites::vacuous;
-pub use rewrites::vacuous_ge;
-pub use rewrites::vacuous_le;
 pub use rewrites::vacuous_room;
 pub use sides::above_hi;
 pub use sides::below_lo;
-pub use sides::budget;
-pub use sides::hi_side;
-pub use sides::lo_side;
-pub use sides::mag_both;
 pub use sides::mag_l;
 pub use sides::mag_u;
 pub use sides::near_max;
 pub use sides::near_min;
 pub use sides::redundant;
-pub use sides::rhs_mag;
-pub use sides::side_mag;
 pub use sides::within;
-pub use sides::within_by;
-pub use sides::within_hi;
-pub use sides::within_lo;
-pub use singles::dropped_room;
-pub use singles::finite_mag;
 pub use singles::lower_meets;
 pub use singles::lower_side;
 pub use singles::misses;
 pub use singles::new_lower;
 pub use singles::new_upper;
-pub use singles::room_at;
 pub use singles::upper_meets;
 pub use singles::upper_side;
-pub use singles::widened_at;
 
 // What a row's formulas look at, by value: its two sides, the magnitude of the terms folded out of
 // it, and their sum. Fields are in camel case so that definitions name them unquoted.

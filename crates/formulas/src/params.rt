@@ -1,5 +1,5 @@
-// src/presolve/params.rs: presolve's seven thresholds and caps. Where one is used, its function's
-// proof takes it for the definition's.
+// src/presolve/params.rs of microlp 0.7.0, changed: presolve's seven thresholds and caps.
+// Where one is used, its function's proof takes it for the definition's.
 ghost use mathlib.Core.Path.{_≡_};
 ghost use Rattle.definition.specs.Params.{maxWaves, params};
 

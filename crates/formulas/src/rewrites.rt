@@ -1,4 +1,5 @@
-// What a rewrite does to one term: a vacuous branch of a binary is made bound-tight.
+// `tighten_binary_coeffs` of src/presolve/work.rs of microlp 0.7.0, changed: what a rewrite does to one
+// term: a vacuous branch of a binary is made bound-tight.
 ghost use mathlib.Core.Path.{_≡_};
 ghost use lib.Ieee.{Float};
 ghost use Rattle.definition.specs.Rewrites as defs;
@@ -83,7 +84,7 @@ fn with_u(act: Activity, u: f64) -> Activity
 }
 
 // The activity after a rewrite of the coefficient a into na.
-pub fn after_coeff(f: Form, a: f64, na: f64, act: Activity) -> Activity
+fn after_coeff(f: Form, a: f64, na: f64, act: Activity) -> Activity
     ensures { λ z. ⌜ z ≡ defs.actAfter (formIs f) a (defs.coeffOnly na) act ⌝ }
 {
     match f {
@@ -94,7 +95,7 @@ pub fn after_coeff(f: Form, a: f64, na: f64, act: Activity) -> Activity
 }
 
 // The activity after a rewrite that moves the bound by delta.
-pub fn after_bound(f: Form, delta: f64, act: Activity) -> Activity
+fn after_bound(f: Form, delta: f64, act: Activity) -> Activity
     ensures { λ z. ⌜ ((a na bp : Float) → z ≡ defs.actAfter (formIs f) a (defs.coeffBound na bp delta) act) ⌝ }
 {
     match f {
@@ -115,7 +116,7 @@ pub fn act_after(f: Form, a: f64, x: Rewrite, act: Activity) -> Activity
 }
 
 // A Le row, b its bound. At zero the branch is vacuous, and a and b shrink.
-pub fn shrink_le(nz: f64, b: f64, restU: f64, a: f64) -> Rewrite
+fn shrink_le(nz: f64, b: f64, restU: f64, a: f64) -> Rewrite
     ensures { λ z. ⌜ ByParams (rewriteIs z) (λ M. defs.shrinkLe M nz b restU a) ⌝ }
 {
     let bp = restU + nz;
@@ -131,7 +132,7 @@ pub fn shrink_le(nz: f64, b: f64, restU: f64, a: f64) -> Rewrite
 }
 
 // At one the branch is vacuous, and |a| shrinks.
-pub fn raise_le(nz: f64, b: f64, restU: f64, a: f64) -> Rewrite
+fn raise_le(nz: f64, b: f64, restU: f64, a: f64) -> Rewrite
     ensures { λ z. ⌜ ByParams (rewriteIs z) (λ M. defs.raiseLe M nz b restU a) ⌝ }
 {
     let na = b - (restU + nz);
@@ -144,7 +145,7 @@ pub fn raise_le(nz: f64, b: f64, restU: f64, a: f64) -> Rewrite
     Rewrite::Keeps
 }
 
-pub fn vacuous_le(nz: f64, x: Limits, act: Activity, a: f64) -> Rewrite
+fn vacuous_le(nz: f64, x: Limits, act: Activity, a: f64) -> Rewrite
     ensures { λ z. ⌜ ByParams (rewriteIs z) (λ M. defs.vacuousLe M nz (bare x) act a) ⌝ }
 {
     let restU = act.u - floats::larger(a, 0.0);
@@ -154,8 +155,8 @@ pub fn vacuous_le(nz: f64, x: Limits, act: Activity, a: f64) -> Rewrite
     raise_le(nz, x.hi, restU, a)
 }
 
-// A Ge row likewise.
-pub fn shrink_ge(nz: f64, b: f64, restL: f64, a: f64) -> Rewrite
+// A Ge row, b its bound. At zero the branch is vacuous, and b and a, which is negative, rise.
+fn shrink_ge(nz: f64, b: f64, restL: f64, a: f64) -> Rewrite
     ensures { λ z. ⌜ ByParams (rewriteIs z) (λ M. defs.shrinkGe M nz b restL a) ⌝ }
 {
     let bp = restL - nz;
@@ -170,7 +171,8 @@ pub fn shrink_ge(nz: f64, b: f64, restL: f64, a: f64) -> Rewrite
     Rewrite::Keeps
 }
 
-pub fn lower_ge(nz: f64, b: f64, restL: f64, a: f64) -> Rewrite
+// A Ge row where at one the branch is vacuous: a falls.
+fn lower_ge(nz: f64, b: f64, restL: f64, a: f64) -> Rewrite
     ensures { λ z. ⌜ ByParams (rewriteIs z) (λ M. defs.lowerGe M nz b restL a) ⌝ }
 {
     let na = b - (restL - nz);
@@ -183,7 +185,7 @@ pub fn lower_ge(nz: f64, b: f64, restL: f64, a: f64) -> Rewrite
     Rewrite::Keeps
 }
 
-pub fn vacuous_ge(nz: f64, x: Limits, act: Activity, a: f64) -> Rewrite
+fn vacuous_ge(nz: f64, x: Limits, act: Activity, a: f64) -> Rewrite
     ensures { λ z. ⌜ ByParams (rewriteIs z) (λ M. defs.vacuousGe M nz (bare x) act a) ⌝ }
 {
     let restL = act.l - floats::smaller(a, 0.0);
@@ -193,7 +195,7 @@ pub fn vacuous_ge(nz: f64, x: Limits, act: Activity, a: f64) -> Rewrite
     lower_ge(nz, x.lo, restL, a)
 }
 
-pub fn vacuous(f: Form, nz: f64, x: Limits, act: Activity, a: f64) -> Rewrite
+fn vacuous(f: Form, nz: f64, x: Limits, act: Activity, a: f64) -> Rewrite
     ensures { λ z. ⌜ ByParams (rewriteIs z) (λ M. defs.vacuous M (formIs f) nz (bare x) act a) ⌝ }
 {
     match f {

@@ -1,5 +1,6 @@
-// What a row's activities say of it: whether no point meets it, whether it may force its variables,
-// whether it is redundant.
+// `primal_wave`, `budget` and `Row::rhs_mag` of src/presolve/work.rs and model.rs of microlp 0.7.0,
+// changed: what a row's activities say of it: whether no point meets it, whether it may force its
+// variables, whether it is redundant.
 ghost use mathlib.Core.Path.{_≡_};
 ghost use Rattle.definition.specs.Model.{rhsMag};
 ghost use Rattle.definition.specs.Work as work;
@@ -10,14 +11,14 @@ use crate::params::REDUNDANT_MARGIN;
 use definition::Activity;
 
 // The magnitude of a bound as written.
-pub fn rhs_mag(x: Limits, b: f64) -> f64
+pub(crate) fn rhs_mag(x: Limits, b: f64) -> f64
     ensures { λ z. ⌜ z ≡ rhsMag (bare x) b ⌝ }
 {
     floats::absolute(b + x.shift)
 }
 
 // Whether the activity can speak of the upper side, and of the lower.
-pub fn hi_side(x: Limits, act: Activity) -> bool
+fn hi_side(x: Limits, act: Activity) -> bool
     ensures { λ z. ⌜ z ≡ sides.hiSide (bare x) act ⌝ }
 {
     if floats::is_finite(x.hi) {
@@ -26,7 +27,7 @@ pub fn hi_side(x: Limits, act: Activity) -> bool
     false
 }
 
-pub fn lo_side(x: Limits, act: Activity) -> bool
+fn lo_side(x: Limits, act: Activity) -> bool
     ensures { λ z. ⌜ z ≡ sides.loSide (bare x) act ⌝ }
 {
     if floats::is_finite(x.lo) {
@@ -49,7 +50,7 @@ pub fn mag_u(x: Limits, act: Activity) -> f64
 }
 
 // What a row of so many terms may be missed by, at a magnitude.
-pub fn budget(feas: f64, terms: usize, m: f64) -> f64
+pub(crate) fn budget(feas: f64, terms: usize, m: f64) -> f64
     ensures { λ z. ⌜ Says feas terms z (λ M r. work.budget M r m) ⌝ }
 {
     tolerances::slack_tol(feas, m, terms)
@@ -94,7 +95,7 @@ pub fn near_max(feas: f64, terms: usize, x: Limits, act: Activity) -> bool
 }
 
 // Redundancy: whether each corner, with its slack, keeps to a limit.
-pub fn within_lo(limit: f64, x: Limits, act: Activity) -> bool
+fn within_lo(limit: f64, x: Limits, act: Activity) -> bool
     ensures { λ z. ⌜ z ≡ sides.withinLo limit (bare x) act ⌝ }
 {
     if floats::is_finite(x.lo) {
@@ -106,7 +107,7 @@ pub fn within_lo(limit: f64, x: Limits, act: Activity) -> bool
     true
 }
 
-pub fn within_hi(limit: f64, x: Limits, act: Activity) -> bool
+fn within_hi(limit: f64, x: Limits, act: Activity) -> bool
     ensures { λ z. ⌜ z ≡ sides.withinHi limit (bare x) act ⌝ }
 {
     if floats::is_finite(x.hi) {
@@ -127,7 +128,7 @@ pub fn within(x: Limits, act: Activity) -> bool
     false
 }
 
-pub fn within_by(red: f64, x: Limits, act: Activity) -> bool
+fn within_by(red: f64, x: Limits, act: Activity) -> bool
     ensures { λ z. ⌜ z ≡ sides.withinBy red (bare x) act ⌝ }
 {
     if within_lo(x.lo + red, x, act) {
@@ -137,7 +138,7 @@ pub fn within_by(red: f64, x: Limits, act: Activity) -> bool
 }
 
 // The magnitude of a finite side.
-pub fn side_mag(x: Limits, b: f64) -> f64
+fn side_mag(x: Limits, b: f64) -> f64
     ensures { λ z. ⌜ z ≡ sides.sideMag (bare x) b ⌝ }
 {
     if floats::is_finite(b) {
@@ -146,7 +147,7 @@ pub fn side_mag(x: Limits, b: f64) -> f64
     0.0
 }
 
-pub fn mag_both(x: Limits, e: Activity) -> f64
+fn mag_both(x: Limits, e: Activity) -> f64
     ensures { λ z. ⌜ z ≡ sides.magBoth (bare x) e ⌝ }
 {
     e.absL + e.absU + x.foldScale + side_mag(x, x.lo) + side_mag(x, x.hi)

@@ -1,5 +1,5 @@
-// Rows of one term: the bounds that such a row leaves its variable, and whether the variable's own
-// bounds imply the row.
+// `singleton_row` of src/presolve/work.rs of microlp 0.7.0, changed: the bounds that a row of one term
+// leaves its variable, and whether the variable's own bounds imply the row.
 ghost use mathlib.Core.Path.{_≡_};
 ghost use Rattle.definition.specs.Singles as singles;
 ghost use Rattle.formulas.specs.Bare.{bare, Says, ByTol};
@@ -29,7 +29,7 @@ pub fn upper_side(x: Limits, a: f64) -> f64
 }
 
 // The row's magnitude where the side b is tight.
-pub fn finite_mag(x: Limits, b: f64) -> f64
+fn finite_mag(x: Limits, b: f64) -> f64
     ensures { λ z. ⌜ z ≡ singles.finiteMag (bare x) b ⌝ }
 {
     if floats::is_finite(b) {
@@ -39,21 +39,21 @@ pub fn finite_mag(x: Limits, b: f64) -> f64
 }
 
 // How far past the implied bound the row lets the variable: its budget over |a|.
-pub fn room_at(feas: f64, terms: usize, x: Limits, a: f64, b: f64) -> f64
+fn room_at(feas: f64, terms: usize, x: Limits, a: f64, b: f64) -> f64
     ensures { λ z. ⌜ Says feas terms z (λ M r. singles.roomAt M r (bare x) a b) ⌝ }
 {
     budget(feas, terms, finite_mag(x, b)) / floats::absolute(a)
 }
 
 // That, widened by the round-off of the folded side.
-pub fn widened_at(feas: f64, terms: usize, x: Limits, a: f64, b: f64) -> f64
+fn widened_at(feas: f64, terms: usize, x: Limits, a: f64, b: f64) -> f64
     ensures { λ z. ⌜ Says feas terms z (λ M r. singles.widenedAt M r (bare x) a b) ⌝ }
 {
     room_at(feas, terms, x, a, b) + ROUNDOFF_FLOOR * finite_mag(x, b) / floats::absolute(a)
 }
 
 // What a row that is dropped leaves: its whole tolerance less round-off, over |a|.
-pub fn dropped_room(feas: f64, x: Limits, a: f64, b: f64) -> f64
+fn dropped_room(feas: f64, x: Limits, a: f64, b: f64) -> f64
     ensures { λ z. ⌜ ByTol feas z (λ M. singles.droppedRoom M (bare x) a b) ⌝ }
 {
     let m = finite_mag(x, b);

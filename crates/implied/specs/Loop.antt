@@ -30,7 +30,8 @@ use Rattle.rows.specs.Steps.{stopped-then, inv-next, inv-then}
 use Rattle.rows.specs.Loop.{Turning, turning-start, term-still, len-is}
 use Rattle.implied.specs.Sides.{term-has, inv-term, leaves-term}
 
-bounds-cons : (M : Model) (r : ℕ) (row : Row) (act : Activity) (t : Term) (ts : List Term) (w : Work) → impliedBounds M r row act (t ∷ ts) w ≡ (impliedTerm M r row act t w >>= λ w1. impliedBounds M r row act ts w1)
+bounds-cons : (M : Model) (r : ℕ) (row : Row) (act : Activity) (t : Term) (ts : List Term) (w : Work) → impliedBounds M r row act (t ∷ ts) w
+    ≡ (impliedTerm M r row act t w >>= λ w1. impliedBounds M r row act ts w1)
 unfolding impliedBounds
 bounds-cons M r row act t ts w = refl
 
@@ -69,8 +70,10 @@ left-is M r row act i t u hx m e =
     ∙ bounds-cons M r row act t (drop (suc i) (row .terms)) u
     ∙ ap (λ (z : Step). z >>= λ w1. impliedBounds M r row act (drop (suc i) (row .terms)) w1) (sym (term-has M r hx act t u))
 
-module _ {P : Model → Type 0} {s : Shape} {f₀ f : Floats} {n₀ n : Numbers} {ss : List ℕ} {r : ℕ} {act : Activity} {i : ℕ} (q : (M : Model) → P M → Spans ss M) (p : r < s .rows) (a : Alive n₀ r) (T : Turning P s f₀ n₀ f n (Implying r act i)) where
-  module _ {f′ : Floats} {n′ : Numbers} {x : Limits} {l v : ℕ} {y : Float} (lim : ReadsLimits s f₀ r x) (el : l ≡ getD (n₀ .len) r 0) (il : i < l) (ev : v ≡ getD (n .vars) (getD ss r 0 + i) 0) (ey : y ≡ getD (f .coeffs) (getD ss r 0 + i) nan) where
+module _ {P : Model → Type 0} {s : Shape} {f₀ f : Floats} {n₀ n : Numbers} {ss : List ℕ} {r : ℕ} {act : Activity} {i : ℕ} (q : (M : Model) → P M → Spans ss M)
+    (p : r < s .rows) (a : Alive n₀ r) (T : Turning P s f₀ n₀ f n (Implying r act i)) where
+  module _ {f′ : Floats} {n′ : Numbers} {x : Limits} {l v : ℕ} {y : Float} (lim : ReadsLimits s f₀ r x) (el : l ≡ getD (n₀ .len) r 0) (il : i < l)
+      (ev : v ≡ getD (n .vars) (getD ss r 0 + i) 0) (ey : y ≡ getD (f .coeffs) (getD ss r 0 + i) nan) where
     pub implying-turn : Tries P s f n f′ n′ Next (λ M. impliedTerm M r (bare x) act (term v y)) → Turning P s f₀ n₀ f′ n′ (Implying r act (i + 1))
     implying-turn t =
         record {
@@ -89,7 +92,8 @@ module _ {P : Model → Type 0} {s : Shape} {f₀ f : Floats} {n₀ n : Numbers}
                       rows = same-next (leaves-term rows-blind M r (bare x) act (term v y) (N .work)) (g .is) ∙ N .holds .rows;
                       rest =
                           ap (λ (d : ℕ). impliedBounds M r row act (drop d (row .terms)) (g .work)) (add-one i)
-                          ∙ sym (left-is M r row act i (term v y) (N .work) (lim .has M n₀ o w c h a) m e ∙ ap (λ (z : Step). z >>= λ w1. impliedBounds M r row act (drop (suc i) (row .terms)) w1) (g .is))
+                          ∙ sym (left-is M r row act i (term v y) (N .work) (lim .has M n₀ o w c h a) m e ∙ ap
+                          (λ (z : Step). z >>= λ w1. impliedBounds M r row act (drop (suc i) (row .terms)) w1) (g .is))
                           ∙ N .holds .rest;
                     };
               };

@@ -86,11 +86,13 @@ term-of : (M : Model) (r : ℕ) (row : Row) (act : Activity) (t : Term) (w : Wor
 unfolding impliedTerm both sideStep fromRest
 term-of M r row act t w = refl
 
-then-has : {x : Limits} {row : Row} (M : Model) (r : ℕ) → Has x row → (side : Side) (c : Float) (t : Term) (z : Step) → (z >>= λ w1. sideStep M false r (bare x) side c t w1) ≡ (z >>= λ w1. sideStep M false r row side c t w1)
+then-has : {x : Limits} {row : Row} (M : Model) (r : ℕ) → Has x row → (side : Side) (c : Float) (t : Term) (z : Step)
+    → (z >>= λ w1. sideStep M false r (bare x) side c t w1) ≡ (z >>= λ w1. sideStep M false r row side c t w1)
 then-has M r h side c t (stop k) = refl
 then-has M r h side c t (next w) = side-has M r h false side c t w
 
-both-has : {x : Limits} {row : Row} (M : Model) (r : ℕ) → Has x row → (above below : Side) (cmin cmax : Float) (t : Term) (w : Work) → both M r (bare x) above below cmin cmax t w ≡ both M r row above below cmin cmax t w
+both-has : {x : Limits} {row : Row} (M : Model) (r : ℕ) → Has x row → (above below : Side) (cmin cmax : Float) (t : Term) (w : Work)
+    → both M r (bare x) above below cmin cmax t w ≡ both M r row above below cmin cmax t w
 unfolding both
 both-has {x} {row} M r h above below cmin cmax t w =
     then-has M r h below cmax t (sideStep M true r (bare x) above cmin t w) ∙ ap (λ (y : Step). y >>= λ w1. sideStep M false r row below cmax t w1) (side-has M r h true above cmin t w)
@@ -136,10 +138,12 @@ inv-term {M} {k} r row act t w i =
 pub leaves-term : {A : Type 0} {g : Work → A} → Blind g → (M : Model) (r : ℕ) (row : Row) (act : Activity) (t : Term) (w : Work) → Leaves g w (impliedTerm M r row act t w)
 unfolding both
 leaves-term b M r row act t w =
-    rw (term-of M r row act t w) (same-then (λ w1. sideStep M false r row (loOf row act) _ t w1) (leaves-side b M true r row (hiOf row act) _ t w) (λ u. leaves-side b M false r row (loOf row act) _ t u))
+    rw (term-of M r row act t w) (same-then (λ w1. sideStep M false r row (loOf row act) _ t w1) (leaves-side b M true r row (hiOf row act) _ t w)
+    (λ u. leaves-side b M false r row (loOf row act) _ t u))
 
 -- ---- implied_rest: a variable that stays as it is
-module _ {ds ss js : List ℕ} {s : Shape} {f : Floats} {n : Numbers} (upper : Bool) (r : ℕ) (x : Limits) (side : Side) (c : Float) (v : ℕ) (a rest : Float) {q : Float} {b : Bool} (eq : q ≡ quotientOf (side .bound) rest a) (eb : b ≡ boundsAbove upper a) where
+module _ {ds ss js : List ℕ} {s : Shape} {f : Floats} {n : Numbers} (upper : Bool) (r : ℕ) (x : Limits) (side : Side) (c : Float) (v : ℕ) (a rest : Float)
+    {q : Float} {b : Bool} (eq : q ≡ quotientOf (side .bound) rest a) (eb : b ≡ boundsAbove upper a) where
   pub rest-still : Held a → Still ds s f side v q b → Tries (Moves ds ss js) s f n f n Next (λ M. fromRest M upper r (bare x) side c (term v a) (some rest))
   rest-still ha t =
       record {
@@ -155,8 +159,10 @@ module _ {ds ss js : List ℕ} {s : Shape} {f : Floats} {n : Numbers} (upper : B
 
 -- ---- implied_rest: by the side's direction
 module _ {ds ss js : List ℕ} {s : Shape} {f f′ : Floats} {n n′ : Numbers} {z : code.Step} (upper : Bool) (r : ℕ) (x : Limits) (side : Side) (c : Float) (v : ℕ) (a rest : Float)
-    {q relax : Float} {l : ℕ} {b : Bool} (eq : q ≡ quotientOf (side .bound) rest a) (el : l ≡ getD ss (r + 1) 0 - getD ss r 0) (er : Says (s .feas) l relax (λ M r′. relaxOf M r′ (bare x) side c rest a)) (eb : b ≡ boundsAbove upper a) where
-  pub rest-upper : b ≡ true → Tries (Bounding ds js) s f n f′ n′ z (λ M. tightenUpper M v q relax) → Tries (Moves ds ss js) s f n f′ n′ z (λ M. fromRest M upper r (bare x) side c (term v a) (some rest))
+    {q relax : Float} {l : ℕ} {b : Bool} (eq : q ≡ quotientOf (side .bound) rest a) (el : l ≡ getD ss (r + 1) 0 - getD ss r 0)
+    (er : Says (s .feas) l relax (λ M r′. relaxOf M r′ (bare x) side c rest a)) (eb : b ≡ boundsAbove upper a) where
+  pub rest-upper : b ≡ true → Tries (Bounding ds js) s f n f′ n′ z (λ M. tightenUpper M v q relax) → Tries (Moves ds ss js) s f n f′ n′ z
+      (λ M. fromRest M upper r (bare x) side c (term v a) (some rest))
   rest-upper y t =
       tries-as
       (λ M o k w p d h i.
@@ -165,7 +171,8 @@ module _ {ds ss js : List ℕ} {s : Shape} {f f′ : Floats} {n n′ : Numbers} 
       ∙ ap (λ (u : Float). tightenUpper M v q u w) (sym (er .of M r (of-call d (moves-spans M p) el))))
       (tries-under moves-bounding t)
 
-  pub rest-lower : b ≡ false → Tries (Bounding ds js) s f n f′ n′ z (λ M. tightenLower M v q relax) → Tries (Moves ds ss js) s f n f′ n′ z (λ M. fromRest M upper r (bare x) side c (term v a) (some rest))
+  pub rest-lower : b ≡ false → Tries (Bounding ds js) s f n f′ n′ z (λ M. tightenLower M v q relax) → Tries (Moves ds ss js) s f n f′ n′ z
+      (λ M. fromRest M upper r (bare x) side c (term v a) (some rest))
   rest-lower y t =
       tries-as
       (λ M o k w p d h i.
@@ -190,7 +197,8 @@ module _ {P : Model → Type 0} {s : Shape} {f : Floats} {n : Numbers} (upper : 
     side-open u =
         record { does = λ M o k w p d h i. went-by (side-is M upper r row side c t z w e g ∙ ap (λ (y : Rest). fromRest M upper r row side c t (restIs y) w) u ∙ rest-none M upper r row side c t w) h }
 
-    pub side-sum : {f′ : Floats} {n′ : Numbers} {y : code.Step} {rest : Float} → z ≡ Sum rest → Tries P s f n f′ n′ y (λ M. fromRest M upper r row side c t (some rest)) → Tries P s f n f′ n′ y (λ M. sideStep M upper r row side c t)
+    pub side-sum : {f′ : Floats} {n′ : Numbers} {y : code.Step} {rest : Float} → z ≡ Sum rest → Tries P s f n f′ n′ y
+        (λ M. fromRest M upper r row side c t (some rest)) → Tries P s f n f′ n′ y (λ M. sideStep M upper r row side c t)
     side-sum u k = tries-as (λ M o j w p d h i. side-is M upper r row side c t z w e g ∙ ap (λ (y : Rest). fromRest M upper r row side c t (restIs y) w) u) k
 
 -- ---- quiet: a half that changes nothing, whatever row it is of
@@ -233,7 +241,8 @@ before-keeps upper r row act cmin cmax t =
     record { keeps = λ M k w p q i. either (InvStep M k) upper (λ e. goes i) (λ e. inv-side true r row _ _ t w i) }
 
 module _ {P : Model → Type 0} {s : Shape} {f f′ : Floats} {n n′ : Numbers} {z : code.Step} where
-  pub half-is : (upper : Bool) (r : ℕ) (x : Limits) (act : Activity) (cmin cmax : Float) (t : Term) {side : Side} {c : Float} → side ≡ choose upper (hiOf (bare x) act) (loOf (bare x) act) → c ≡ choose upper cmin cmax
+  pub half-is : (upper : Bool) (r : ℕ) (x : Limits) (act : Activity) (cmin cmax : Float) (t : Term) {side : Side} {c : Float}
+      → side ≡ choose upper (hiOf (bare x) act) (loOf (bare x) act) → c ≡ choose upper cmin cmax
       → Tries P s f n f′ n′ z (λ M. sideStep M upper r (bare x) side c t) → Tries P s f n f′ n′ z (λ M. halfStep M upper r (bare x) act cmin cmax t)
   unfolding halfStep
   half-is upper r x act cmin cmax t {side} {c} e g h =
@@ -250,7 +259,8 @@ pub turns-less : {upper : Bool} → upper ≡ true → turnsLeft false < turnsLe
 unfolding turnsLeft
 turns-less e = subst (λ (b : Bool). turnsLeft false < turnsLeft b) (sym e) (omega arith)
 
-before-start : {P : Model → Type 0} {s : Shape} {f : Floats} {n : Numbers} (r : ℕ) (row : Row) (act : Activity) (cmin cmax : Float) (t : Term) → Tries P s f n f n Next (λ M. doneBefore M true r row act cmin cmax t)
+before-start : {P : Model → Type 0} {s : Shape} {f : Floats} {n : Numbers} (r : ℕ) (row : Row) (act : Activity) (cmin cmax : Float) (t : Term)
+    → Tries P s f n f n Next (λ M. doneBefore M true r row act cmin cmax t)
 unfolding doneBefore choose
 before-start r row act cmin cmax t = record { does = λ M o k w p d h i. went-by refl h }
 
@@ -284,12 +294,14 @@ module _ {P : Model → Type 0} {s : Shape} {f₀ f f₁ : Floats} {n₀ n n₁ 
 unfoldable pub halves : Model → ℕ → Row → Activity → Float → Float → Term → Work → Step
 halves M r row act cmin cmax t w = doneBefore M false r row act cmin cmax t w >>= λ w1. halfStep M false r row act cmin cmax t w1
 
-halves-by : (M : Model) (r : ℕ) (row : Row) (act : Activity) (cmin cmax : Float) (t : Term) (w : Work) → halves M r row act cmin cmax t w ≡ (doneBefore M false r row act cmin cmax t w >>= λ w1. halfStep M false r row act cmin cmax t w1)
+halves-by : (M : Model) (r : ℕ) (row : Row) (act : Activity) (cmin cmax : Float) (t : Term) (w : Work) → halves M r row act cmin cmax t w
+    ≡ (doneBefore M false r row act cmin cmax t w >>= λ w1. halfStep M false r row act cmin cmax t w1)
 unfolding halves
 halves-by M r row act cmin cmax t w = refl
 
 module _ {P : Model → Type 0} {s : Shape} {f₀ f f₁ : Floats} {n₀ n n₁ : Numbers} (r : ℕ) (x : Limits) (act : Activity) (cmin cmax : Float) (t : Term) where
-  pub halves-end : {upper : Bool} {z : code.Step} → upper ≡ false → Tries P s f₀ n₀ f n Next (λ M. doneBefore M upper r (bare x) act cmin cmax t) → Tries P s f n f₁ n₁ z (λ M. halfStep M upper r (bare x) act cmin cmax t)
+  pub halves-end : {upper : Bool} {z : code.Step} → upper ≡ false → Tries P s f₀ n₀ f n Next (λ M. doneBefore M upper r (bare x) act cmin cmax t)
+      → Tries P s f n f₁ n₁ z (λ M. halfStep M upper r (bare x) act cmin cmax t)
       → Tries P s f₀ n₀ f₁ n₁ z (λ M. halves M r (bare x) act cmin cmax t)
   halves-end {upper} e b h =
       tries-as
@@ -310,11 +322,13 @@ module _ {P : Model → Type 0} {s : Shape} {f₀ f f₁ : Floats} {n₀ n n₁ 
   halves-upper e g i b h = halves-end r x act cmin cmax t refl (first-half r (bare x) act cmin cmax t e b h) (half-none r x act cmin cmax t (sym g ∙ i))
 
 -- neither half changes anything
-quiet-halves : {ds ss js : List ℕ} {s : Shape} {f : Floats} {n : Numbers} (r : ℕ) (x : Limits) (act : Activity) (v : ℕ) (a cmin cmax : Float) {high low : Side} → high ≡ hiOf (bare x) act → low ≡ loOf (bare x) act
+quiet-halves : {ds ss js : List ℕ} {s : Shape} {f : Floats} {n : Numbers} (r : ℕ) (x : Limits) (act : Activity) (v : ℕ) (a cmin cmax : Float) {high low : Side}
+    → high ≡ hiOf (bare x) act → low ≡ loOf (bare x) act
     → Quiet ds s f high true cmin v a → Quiet ds s f low false cmax v a → Tries (Moves ds ss js) s f n f n Next (λ M. halves M r (bare x) act cmin cmax (term v a))
 quiet-halves {ss = ss} {js = js} {n = n} r x act v a cmin cmax eh el p q =
     halves-end r x act cmin cmax (term v a) refl
-    (first-half r (bare x) act cmin cmax (term v a) refl (before-start r (bare x) act cmin cmax (term v a)) (half-is true r x act cmin cmax (term v a) (eh ∙ sym (yes _ _ refl)) (sym (yes _ _ refl)) (p .quiet ss js n r x)))
+    (first-half r (bare x) act cmin cmax (term v a) refl (before-start r (bare x) act cmin cmax (term v a))
+    (half-is true r x act cmin cmax (term v a) (eh ∙ sym (yes _ _ refl)) (sym (yes _ _ refl)) (p .quiet ss js n r x)))
     (half-is false r x act cmin cmax (term v a) (el ∙ sym (no _ _ refl)) (sym (no _ _ refl)) (q .quiet ss js n r x))
 
 -- ---- implied_term: its halves, of the parts that its variable's bounds give
@@ -330,9 +344,11 @@ module _ {f : Floats} (r : ℕ) (x : Limits) (act : Activity) (v : ℕ) (a : Flo
       ∙ halves-are M r (bare x) act cmin cmax (term v a) w
       ∙ sym (halves-by M r (bare x) act cmin cmax (term v a) w)
 
-  pub term-halves : {P : Model → Type 0} {s : Shape} {n n₁ : Numbers} {f₁ : Floats} {z : code.Step} → Tries P s f n f₁ n₁ z (λ M. halves M r (bare x) act cmin cmax (term v a)) → Tries P s f n f₁ n₁ z (λ M. impliedTerm M r (bare x) act (term v a))
+  pub term-halves : {P : Model → Type 0} {s : Shape} {n n₁ : Numbers} {f₁ : Floats} {z : code.Step} → Tries P s f n f₁ n₁ z
+      (λ M. halves M r (bare x) act cmin cmax (term v a)) → Tries P s f n f₁ n₁ z (λ M. impliedTerm M r (bare x) act (term v a))
   term-halves t = tries-as (λ M o k w p d y i. term-is y) t
 
-  pub term-quiet : {ds ss js : List ℕ} {s : Shape} {n : Numbers} {high low : Side} → high ≡ hiOf (bare x) act → low ≡ loOf (bare x) act → Quiet ds s f high true cmin v a → Quiet ds s f low false cmax v a
+  pub term-quiet : {ds ss js : List ℕ} {s : Shape} {n : Numbers} {high low : Side} → high ≡ hiOf (bare x) act → low ≡ loOf (bare x) act
+      → Quiet ds s f high true cmin v a → Quiet ds s f low false cmax v a
       → Tries (Moves ds ss js) s f n f n Next (λ M. impliedTerm M r (bare x) act (term v a))
   term-quiet eh el p q = term-halves (quiet-halves r x act v a cmin cmax eh el p q)

@@ -1,5 +1,10 @@
-// `primal_wave` of src/presolve/work.rs, changed: the implied bounds of each term of a row, from each
-// side of it.
+// `primal_wave` of src/presolve/work.rs of microlp 0.7.0, changed: the implied bounds of each term of a
+// row, from each side of it.
+// With the rest of the row at its corner, a side bounds the term; the bound is relaxed by the row's
+// budget there, by the round-off of the rest and by the slack, so that it holds of every solution
+// within tolerance. The activity is the one from before the loop: looser than what the loop has
+// tightened since, so still valid. Most bounds change nothing, which is seen before what they are
+// relaxed by is computed.
 ghost use Prim.Native.Nat.{_+_, _-_, _<_};
 ghost use mathlib.Core.Path.{_≡_};
 ghost use mathlib.Core.Bool.{true, false};
@@ -54,7 +59,8 @@ fn implied_rest(
     requires { ⌜ (r < s .rows) × (v < s .vars) × HoldsF s (now w) × HoldsN s (now m) ⌝ }
     requires { ⌜ Ready (Moves (now domain) (now starts) (now adj)) s (floatsOf s (now w)) (numbersOf s (now m)) ⌝ }
     requires { ⌜ terms ≡ getD (now starts) (r + 1) 0 - getD (now starts) r 0 ⌝ }
-    ensures { λ z. ⌜ Tries (Moves (now (domain .entry)) (now (starts .entry)) (now (adj .entry))) s (floatsOf s (now (w .entry))) (numbersOf s (now (m .entry))) (floatsOf s (now (w .exit))) (numbersOf s (now (m .exit))) z (λ M. fromRest M upper r (bare x) side c (term v a) (some rest)) ⌝ }
+    ensures { λ z. ⌜ Tries (Moves (now (domain .entry)) (now (starts .entry)) (now (adj .entry))) s (floatsOf s (now (w .entry))) (numbersOf s (now (m .entry)))
+        (floatsOf s (now (w .exit))) (numbersOf s (now (m .exit))) z (λ M. fromRest M upper r (bare x) side c (term v a) (some rest)) ⌝ }
 {
     let q = formulas::quotient(side, rest, a);
     let above = formulas::bounds_above(upper, a);
@@ -85,7 +91,8 @@ fn implied_side(
     requires { ⌜ (r < s .rows) × (v < s .vars) × HoldsF s (now w) × HoldsN s (now m) ⌝ }
     requires { ⌜ Ready (Moves (now domain) (now starts) (now adj)) s (floatsOf s (now w)) (numbersOf s (now m)) ⌝ }
     requires { ⌜ terms ≡ getD (now starts) (r + 1) 0 - getD (now starts) r 0 ⌝ }
-    ensures { λ z. ⌜ Tries (Moves (now (domain .entry)) (now (starts .entry)) (now (adj .entry))) s (floatsOf s (now (w .entry))) (numbersOf s (now (m .entry))) (floatsOf s (now (w .exit))) (numbersOf s (now (m .exit))) z (λ M. sideStep M upper r (bare x) side c (term v a)) ⌝ }
+    ensures { λ z. ⌜ Tries (Moves (now (domain .entry)) (now (starts .entry)) (now (adj .entry))) s (floatsOf s (now (w .entry))) (numbersOf s (now (m .entry)))
+        (floatsOf s (now (w .exit))) (numbersOf s (now (m .exit))) z (λ M. sideStep M upper r (bare x) side c (term v a)) ⌝ }
 {
     if floats::is_finite(side.bound) {
         match formulas::rest_of(side, c) {
@@ -186,7 +193,8 @@ fn implied_half(
     requires { ⌜ (r < s .rows) × (v < s .vars) × HoldsF s (now w) × HoldsN s (now m) ⌝ }
     requires { ⌜ Ready (Moves (now domain) (now starts) (now adj)) s (floatsOf s (now w)) (numbersOf s (now m)) ⌝ }
     requires { ⌜ terms ≡ getD (now starts) (r + 1) 0 - getD (now starts) r 0 ⌝ }
-    ensures { λ z. ⌜ Tries (Moves (now (domain .entry)) (now (starts .entry)) (now (adj .entry))) s (floatsOf s (now (w .entry))) (numbersOf s (now (m .entry))) (floatsOf s (now (w .exit))) (numbersOf s (now (m .exit))) z (λ M. halfStep M upper r (bare x) act cmin cmax (term v a)) ⌝ }
+    ensures { λ z. ⌜ Tries (Moves (now (domain .entry)) (now (starts .entry)) (now (adj .entry))) s (floatsOf s (now (w .entry))) (numbersOf s (now (m .entry)))
+        (floatsOf s (now (w .exit))) (numbersOf s (now (m .exit))) z (λ M. halfStep M upper r (bare x) act cmin cmax (term v a)) ⌝ }
 {
     let side = side_of(upper, x, act);
     let c = part_of(upper, cmin, cmax);
@@ -229,7 +237,8 @@ fn implied_halves(
     requires { ⌜ (r < s .rows) × (v < s .vars) × HoldsF s (now w) × HoldsN s (now m) ⌝ }
     requires { ⌜ Ready (Moves (now domain) (now starts) (now adj)) s (floatsOf s (now w)) (numbersOf s (now m)) ⌝ }
     requires { ⌜ terms ≡ getD (now starts) (r + 1) 0 - getD (now starts) r 0 ⌝ }
-    ensures { λ z. ⌜ Tries (Moves (now (domain .entry)) (now (starts .entry)) (now (adj .entry))) s (floatsOf s (now (w .entry))) (numbersOf s (now (m .entry))) (floatsOf s (now (w .exit))) (numbersOf s (now (m .exit))) z (λ M. halves M r (bare x) act cmin cmax (term v a)) ⌝ }
+    ensures { λ z. ⌜ Tries (Moves (now (domain .entry)) (now (starts .entry)) (now (adj .entry))) s (floatsOf s (now (w .entry))) (numbersOf s (now (m .entry)))
+        (floatsOf s (now (w .exit))) (numbersOf s (now (m .exit))) z (λ M. halves M r (bare x) act cmin cmax (term v a)) ⌝ }
 {
     let mut upper = floats::is_finite(x.hi);
     loop {
@@ -287,7 +296,8 @@ fn implied_term(
     requires { ⌜ (r < s .rows) × (v < s .vars) × HoldsF s (now w) × HoldsN s (now m) ⌝ }
     requires { ⌜ Ready (Moves (now domain) (now starts) (now adj)) s (floatsOf s (now w)) (numbersOf s (now m)) ⌝ }
     requires { ⌜ terms ≡ getD (now starts) (r + 1) 0 - getD (now starts) r 0 ⌝ }
-    ensures { λ z. ⌜ Tries (Moves (now (domain .entry)) (now (starts .entry)) (now (adj .entry))) s (floatsOf s (now (w .entry))) (numbersOf s (now (m .entry))) (floatsOf s (now (w .exit))) (numbersOf s (now (m .exit))) z (λ M. definition.impliedTerm M r (bare x) act (term v a)) ⌝ }
+    ensures { λ z. ⌜ Tries (Moves (now (domain .entry)) (now (starts .entry)) (now (adj .entry))) s (floatsOf s (now (w .entry))) (numbersOf s (now (m .entry)))
+        (floatsOf s (now (w .exit))) (numbersOf s (now (m .exit))) z (λ M. definition.impliedTerm M r (bare x) act (term v a)) ⌝ }
 {
     let lo = space::get_wlo(w, s, v);
     let hi = space::get_whi(w, s, v);
@@ -331,7 +341,8 @@ pub fn implied_bounds(
 ) -> Step
     requires { ⌜ (r < s .rows) × HoldsF s (now w) × HoldsN s (now m) × Alive (numbersOf s (now m)) r ⌝ }
     requires { ⌜ Ready (Moves (now domain) (now starts) (now adj)) s (floatsOf s (now w)) (numbersOf s (now m)) ⌝ }
-    ensures { λ z. ⌜ Tries (Moves (now (domain .entry)) (now (starts .entry)) (now (adj .entry))) s (floatsOf s (now (w .entry))) (numbersOf s (now (m .entry))) (floatsOf s (now (w .exit))) (numbersOf s (now (m .exit))) z (λ M w. definition.impliedBounds M r (rowOf w r) act (rowOf w r .terms) w) ⌝ }
+    ensures { λ z. ⌜ Tries (Moves (now (domain .entry)) (now (starts .entry)) (now (adj .entry))) s (floatsOf s (now (w .entry))) (numbersOf s (now (m .entry)))
+        (floatsOf s (now (w .exit))) (numbersOf s (now (m .exit))) z (λ M w. definition.impliedBounds M r (rowOf w r) act (rowOf w r .terms) w) ⌝ }
 {
     let x = readers::limits(w, s, r);
     let terms = rows::written_terms(starts, r);

@@ -157,7 +157,10 @@ rows-of l = rowColumns (set (l .starts) 0 0) (l .index) (l .coeff) (l .cmp) (l .
 mapped : {A B : Type 0} (f : A → B) (xs : List A) (l : List B) → length xs ≤ length l → sets l 0 (map f xs) ≡ over (map f xs) l
 mapped f xs l h = over-sets (map f xs) l (rw (length-map xs f) h)
 
-leaves : (h : Settings) (vs : List Variable) (rs : List Row) (l : Slices) → (length vs ≤ length (l .objective)) × (length vs ≤ length (l .lower)) × (length vs ≤ length (l .upper)) × (length vs ≤ length (l .domain)) → (length rs + 1 ≤ length (l .starts)) × (length (allTerms rs) ≤ length (l .index)) × (length (allTerms rs) ≤ length (l .coeff)) × (length rs ≤ length (l .cmp)) × (length rs ≤ length (l .rhs)) → columns (putAll putVar vs 0 (vars-of l)) (withRows rs 0 0 (rows-of l)) ≡ filled (lists h vs rs) l
+leaves : (h : Settings) (vs : List Variable) (rs : List Row) (l : Slices) → (length vs ≤ length (l .objective)) × (length vs ≤ length (l .lower))
+    × (length vs ≤ length (l .upper)) × (length vs ≤ length (l .domain)) → (length rs + 1 ≤ length (l .starts)) × (length (allTerms rs) ≤ length (l .index))
+    × (length (allTerms rs) ≤ length (l .coeff)) × (length rs ≤ length (l .cmp)) × (length rs ≤ length (l .rhs))
+    → columns (putAll putVar vs 0 (vars-of l)) (withRows rs 0 0 (rows-of l)) ≡ filled (lists h vs rs) l
 unfolding filled lists vars-of rows-of
 leaves h vs rs l m n =
     ap (λ (c : VarColumns). columns c (withRows rs 0 0 (rows-of l))) (put-vars vs 0 (vars-of l))
@@ -218,15 +221,20 @@ module _ {s : List ℕ} {l : Slices} (k : Ready s l) {b : List ℕ} {h : Setting
 
     pub ready-rows : (h .rows < length (l .starts)) × (h .rows ≤ length (l .cmp)) × (h .rows ≤ length (l .rhs))
     ready-rows =
-        let w = rows-fit (length (k .lists .cmp)) (length (k .lists .index)) (length (l .starts)) (length (l .index)) (length (l .coeff)) (length (l .cmp)) (length (l .rhs)) (lists-rows (k .lists) l (k .roomy)) in
+        let w = rows-fit (length (k .lists .cmp)) (length (k .lists .index)) (length (l .starts)) (length (l .index)) (length (l .coeff)) (length (l .cmp))
+        (length (l .rhs)) (lists-rows (k .lists) l (k .roomy)) in
         omega (arith, w, count-rows)
 
     pub ready-terms : Within (mapGot (after 0) (rows (h .rows) 0 r)) (length (l .index)) × Within (mapGot (after 0) (rows (h .rows) 0 r)) (length (l .coeff))
     ready-terms =
-        let w = rows-fit (length (k .lists .cmp)) (length (k .lists .index)) (length (l .starts)) (length (l .index)) (length (l .coeff)) (length (l .cmp)) (length (l .rhs)) (lists-rows (k .lists) l (k .roomy)) in
-        (within-is (h .rows) (length (l .index)) r (inside .rowList) rows-is (omega (arith, w .1, count-terms)), within-is (h .rows) (length (l .coeff)) r (inside .rowList) rows-is (omega (arith, w .2, count-terms)))
+        let w = rows-fit (length (k .lists .cmp)) (length (k .lists .index)) (length (l .starts)) (length (l .index)) (length (l .coeff)) (length (l .cmp))
+        (length (l .rhs)) (lists-rows (k .lists) l (k .roomy)) in (
+          within-is (h .rows) (length (l .index)) r (inside .rowList) rows-is (omega (arith, w .1, count-terms)),
+          within-is (h .rows) (length (l .coeff)) r (inside .rowList) rows-is (omega (arith, w .2, count-terms)),
+        )
 
-    pub ready-end : {c : VarColumns} {d : RowColumns} → c ≡ fill variable putVar (h .vars) b 0 (varColumns (l .objective) (l .lower) (l .upper) (l .domain)) → d ≡ fillRows (h .rows) r 0 0 (rowColumns (set (l .starts) 0 0) (l .index) (l .coeff) (l .cmp) (l .rhs)) → columns c d ≡ readInto s l .lent
+    pub ready-end : {c : VarColumns} {d : RowColumns} → c ≡ fill variable putVar (h .vars) b 0 (varColumns (l .objective) (l .lower) (l .upper) (l .domain))
+        → d ≡ fillRows (h .rows) r 0 0 (rowColumns (set (l .starts) 0 0) (l .index) (l .coeff) (l .cmp) (l .rhs)) → columns c d ≡ readInto s l .lent
     unfolding vars-of rows-of
     ready-end {c} {d} e f =
         let o = inside in
@@ -236,6 +244,7 @@ module _ {s : List ℕ} {l : Slices} (k : Ready s l) {b : List ℕ} {h : Setting
         let n = rows-are (h .rows) 0 r (o .rowList) [] rows-is in
         let t = after-length 0 (o .rowList) (n .sized) in
         let x = vars-fit (length (k .lists .objective)) (length (l .objective)) (length (l .lower)) (length (l .upper)) (length (l .domain)) (lists-vars (k .lists) l (k .roomy)) in
-        let y = rows-fit (length (k .lists .cmp)) (length (k .lists .index)) (length (l .starts)) (length (l .index)) (length (l .coeff)) (length (l .cmp)) (length (l .rhs)) (lists-rows (k .lists) l (k .roomy)) in
+        let y = rows-fit (length (k .lists .cmp)) (length (k .lists .index)) (length (l .starts)) (length (l .index)) (length (l .coeff)) (length (l .cmp))
+        (length (l .rhs)) (lists-rows (k .lists) l (k .roomy)) in
         let z = leaves h (o .vars) (o .rowList) l (omega (arith, x, m, count-vars)) (omega (arith, y, n .count, t, count-rows, count-terms)) in
         (λ j. columns (u j) (v j)) ∙ z ∙ ap (λ (g : Lists). filled g l) (sym (o .isLists)) ∙ ap (λ (g : Out). g .lent) (answer-full s l (k .is) (k .roomy))

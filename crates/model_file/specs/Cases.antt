@@ -4,7 +4,8 @@ use mathlib.Core.Path.{_≡_, refl}
 use mathlib.Core.List.{List, [], _∷_, _++_, map}
 use lib.Ieee.{binary64, ofBits}
 use Rattle.floats.specs.Num.{0f}
-use Rattle.model_file.specs.Format.{refusal, file, andThen, refuse, many, byte, number, float, optional, count, code, rules, settings, values, variable, side, head, term, row, rows, ends, allTerms, lists, end, whole, decoded, decode}
+use Rattle.model_file.specs.Format.{refusal, file, andThen, refuse, many, byte, number, float, optional, count, code, rules, settings, values}
+use Rattle.model_file.specs.Format.{variable, side, head, term, row, rows, ends, allTerms, lists, end, whole, decoded, decode}
 
 -- 1e-6 and 1e-9, as a file has them
 abbrev tolerances : List ℕ

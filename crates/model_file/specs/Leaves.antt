@@ -21,7 +21,8 @@ unfoldable pub putAll : {A C : Type 0} → (ℕ → A → C → C) → List A �
 putAll put [] i c = c
 putAll put (x ∷ xs) i c = putAll put xs (suc i) (put i x c)
 
-fill-cons : {A C : Type 0} (p : Parser A) (put : ℕ → A → C → C) (n : ℕ) (s : List ℕ) (i : ℕ) (c : C) {x : A} {r : List ℕ} → p s ≡ got x r → fill p put (suc n) s i c ≡ fill p put n r (suc i) (put i x c)
+fill-cons : {A C : Type 0} (p : Parser A) (put : ℕ → A → C → C) (n : ℕ) (s : List ℕ) (i : ℕ) (c : C) {x : A} {r : List ℕ} → p s ≡ got x r
+    → fill p put (suc n) s i c ≡ fill p put n r (suc i) (put i x c)
 unfolding fill caseGot
 fill-cons p put n s i c e = rw e
 
@@ -34,12 +35,15 @@ fill-all p put (suc n) s i c xs r e =
     let z : xs ≡ a .value ∷ b .value = cc in
     fill-cons p put n s i c (a .is) ∙ fill-all p put n (a .rest) (suc i) (put i (a .value) c) (b .value) (b .rest) (b .is) ∙ ap (λ (l : List _). putAll put l i c) (sym z)
 
-pub put-vars : (vs : List Variable) (i : ℕ) (c : VarColumns) → putAll putVar vs i c ≡ varColumns (sets (c .objective) i (map (λ (v : Variable). v .objective) vs)) (sets (c .lower) i (map (λ (v : Variable). v .lower) vs)) (sets (c .upper) i (map (λ (v : Variable). v .upper) vs)) (sets (c .domain) i (map (λ (v : Variable). v .domain) vs))
+pub put-vars : (vs : List Variable) (i : ℕ) (c : VarColumns) → putAll putVar vs i c
+    ≡ varColumns (sets (c .objective) i (map (λ (v : Variable). v .objective) vs)) (sets (c .lower) i (map (λ (v : Variable). v .lower) vs))
+    (sets (c .upper) i (map (λ (v : Variable). v .upper) vs)) (sets (c .domain) i (map (λ (v : Variable). v .domain) vs))
 unfolding putAll
 put-vars [] i c = refl
 put-vars (v ∷ vs) i c = put-vars vs (suc i) (putVar i v c)
 
-pub put-terms : (ts : List Term) (i : ℕ) (c : TermColumns) → putAll putTerm ts i c ≡ termColumns (sets (c .index) i (map (λ (x : Term). x .index) ts)) (sets (c .coeff) i (map (λ (x : Term). x .coeff) ts))
+pub put-terms : (ts : List Term) (i : ℕ) (c : TermColumns) → putAll putTerm ts i c ≡ termColumns (sets (c .index) i (map (λ (x : Term). x .index) ts))
+    (sets (c .coeff) i (map (λ (x : Term). x .coeff) ts))
 unfolding putAll
 put-terms [] i c = refl
 put-terms (x ∷ ts) i c = put-terms ts (suc i) (putTerm i x c)
@@ -79,7 +83,8 @@ terms-append ts us t n c e =
     let v = sets-append (map (λ (x : Term). x .coeff) ts) (map (λ (x : Term). x .coeff) us) (c .coeff) t ∙ ap (sets (c .coeff) t) (sym (map-append (λ (x : Term). x .coeff) ts us)) in
     λ j. termColumns ((rw i at u) j) ((rw a at v) j)
 
-with-cons : (x : Row) (rs : List Row) (r t : ℕ) (c : RowColumns) → length (x .terms) ≡ x .head .count → withRows rs (suc r) (t + x .head .count) (putRow r t (x .head) (withTerms (x .terms) t (c .terms)) c) ≡ withRows (x ∷ rs) r t c
+with-cons : (x : Row) (rs : List Row) (r t : ℕ) (c : RowColumns) → length (x .terms) ≡ x .head .count
+    → withRows rs (suc r) (t + x .head .count) (putRow r t (x .head) (withTerms (x .terms) t (c .terms)) c) ≡ withRows (x ∷ rs) r t c
 unfolding ends allTerms
 with-cons x rs r t c e =
     let k = terms-append (x .terms) (allTerms rs) t (x .head .count) (c .terms) e in

@@ -12,7 +12,8 @@ use lib.Dec.{ltb}
 use lib.Ieee.{Float}
 use Rattle.model_file.specs.declared.RowHead.{RowHead}
 use Rattle.model_file.specs.declared.Settings.{Settings}
-use Rattle.model_file.specs.Format.{Got, refused, got, Parser, andThen, refuse, byte, number, float, optional, count, code, rules, settings, values, variable, side, head, term, many, row, Row, rows, Lists, end, whole, refusal, decoded, decode}
+use Rattle.model_file.specs.Format.{Got, refused, got, Parser, andThen, refuse, byte, number, float, optional, count, code, rules, settings, values}
+use Rattle.model_file.specs.Format.{variable, side, head, term, many, row, Row, rows, Lists, end, whole, refusal, decoded, decode}
 use Rattle.model_file.specs.Places.{then-got, then-refused}
 
 -- t after what is left
@@ -35,7 +36,9 @@ module _ {A B : Type 0} (p : Parser A) (f : A → Parser B) (s t : List ℕ) {c 
   then-same u v (refused n) e = then-refused f (u .same ∙ ap (extend t) e)
   then-same u v (got a r) e = let w = u .took a r e in then-got f (u .same ∙ ap (extend t) e) ∙ v a r (w .0) (w .1) .same
 
-  then-took : Fine p s t c Q → ((a : A) (r : List ℕ) → length s ≤ length r + c a → Q a → Fine (f a) r t (c′ a) Q′) → ((a : A) (b : B) → Q a → Q′ b → c a + c′ a b ≤ c″ b) → (g : Got A) → p s ≡ g → (b : B) (r : List ℕ) → andThen g f ≡ got b r → (length s ≤ length r + c″ b) × Q′ b
+  then-took : Fine p s t c Q → ((a : A) (r : List ℕ) → length s ≤ length r + c a → Q a → Fine (f a) r t (c′ a) Q′)
+      → ((a : A) (b : B) → Q a → Q′ b → c a + c′ a b ≤ c″ b) → (g : Got A) → p s ≡ g → (b : B) (r : List ℕ) → andThen g f ≡ got b r
+      → (length s ≤ length r + c″ b) × Q′ b
   unfolding andThen
   then-took u v h (refused n) e b r q = absurd (let z : _≡_ {A = ℕ} 0 1 = cc in omega arith)
   then-took u v h (got a x) e b r q =
@@ -43,7 +46,8 @@ module _ {A B : Type 0} (p : Parser A) (f : A → Parser B) (s t : List ℕ) {c 
       let y = v a x (w .0) (w .1) .took b r q in
       (omega (arith, w .0, y .0, h a b (w .1) (y .1)), y .1)
 
-  fine-then : Fine p s t c Q → ((a : A) (r : List ℕ) → length s ≤ length r + c a → Q a → Fine (f a) r t (c′ a) Q′) → ((a : A) (b : B) → Q a → Q′ b → c a + c′ a b ≤ c″ b) → Fine (λ (x : List ℕ). andThen (p x) f) s t c″ Q′
+  fine-then : Fine p s t c Q → ((a : A) (r : List ℕ) → length s ≤ length r + c a → Q a → Fine (f a) r t (c′ a) Q′)
+      → ((a : A) (b : B) → Q a → Q′ b → c a + c′ a b ≤ c″ b) → Fine (λ (x : List ℕ). andThen (p x) f) s t c″ Q′
   fine-then u v h = record { same = then-same u v (p s) refl ∙ ap (λ (g : Got A). extend t (andThen g f)) refl; took = λ b r q. then-took u v h (p s) refl b r q }
 
 fine-done : {A : Type 0} (a : A) (s t : List ℕ) (Q : A → Type 0) → Q a → Fine (got a) s t (λ _. 0) Q
@@ -170,7 +174,8 @@ rows-fine zero n s t few l = weaken (fine-done [] s t Any tt) (λ a q. (omega ar
 rows-fine (suc k) n s t few l =
     fine-then (row n) _ s t (λ x _. 11 * k + 10 * (512 - (n + x .head .count))) (λ _. 11 * suc k + 10 * (512 - n)) (row-fine n s t few (omega arith))
     (λ x r l₁ q.
-    fixed-then (rows k (n + x .head .count)) _ r t (11 * k + 10 * (512 - (n + x .head .count))) 0 (11 * k + 10 * (512 - (n + x .head .count))) (omega arith) (rows-fine k (n + x .head .count) r t q (omega arith)) λ rs r₂ l₂ _.
+    fixed-then (rows k (n + x .head .count)) _ r t (11 * k + 10 * (512 - (n + x .head .count))) 0 (11 * k + 10 * (512 - (n + x .head .count))) (omega arith)
+    (rows-fine k (n + x .head .count) r t q (omega arith)) λ rs r₂ l₂ _.
     fine-done (x ∷ rs) r₂ t Any tt)
     (λ x rs q _. omega arith)
 
@@ -184,7 +189,8 @@ whole-fine : (s t : List ℕ) → 9750 ≤ length s → Fine whole s t (λ _. 97
 unfolding whole
 whole-fine s t l =
     fixed-then settings _ s t 21 9728 9749 (omega arith) (settings-fine s t (omega arith)) λ h r₁ l₁ few.
-    fixed-then (many variable (h .vars)) _ r₁ t 3200 6528 9728 (omega arith) (weaken (many-fine variable 25 variable-fine (h .vars) r₁ t (omega (arith, few .0))) (λ _ _. (omega (arith, few .0), tt {0}))) λ vs r₂ l₂ _.
+    fixed-then (many variable (h .vars)) _ r₁ t 3200 6528 9728 (omega arith)
+    (weaken (many-fine variable 25 variable-fine (h .vars) r₁ t (omega (arith, few .0))) (λ _ _. (omega (arith, few .0), tt {0}))) λ vs r₂ l₂ _.
     fixed-then (rows (h .rows) 0) _ r₂ t 6528 0 6528 (omega arith) (weaken (rows-fine (h .rows) 0 r₂ t (omega arith) (omega (arith, few .1))) (λ _ _. (omega (arith, few .1), tt {0}))) λ rs r₃ l₃ _.
     fixed-then end _ r₃ t 0 0 0 (omega arith) (end-fine r₃ t (omega arith)) λ _ r₄ l₄ never.
     absurd never

@@ -182,11 +182,13 @@ module _ (s : List ℕ) (at : ℕ) where
 
     pub variable-code : getD s at 0 ≤ 31 → 2 < getD s at 0 / 8 % 4 → variable (drop at s) ≡ refused 12
     unfolding variable
-    variable-code r d = then-got _ (byte-got s at h) ∙ then-got _ (refuse-no 12 (drop (at + 1) s) (le-ltb 31 (getD s at 0) r)) ∙ then-refused _ (refuse-yes 12 (drop (at + 1) s) (lt-ltb 2 (getD s at 0 / 8 % 4) d))
+    variable-code r d = then-got _ (byte-got s at h) ∙ then-got _ (refuse-no 12 (drop (at + 1) s) (le-ltb 31 (getD s at 0) r))
+        ∙ then-refused _ (refuse-yes 12 (drop (at + 1) s) (lt-ltb 2 (getD s at 0 / 8 % 4) d))
 
     pub variable-values : getD s at 0 ≤ 31 → getD s at 0 / 8 % 4 ≤ 2 → variable (drop at s) ≡ values (getD s at 0) (drop (at + 1) s)
     unfolding variable
-    variable-values r d = then-got _ (byte-got s at h) ∙ then-got _ (refuse-no 12 (drop (at + 1) s) (le-ltb 31 (getD s at 0) r)) ∙ then-got _ (refuse-no 12 (drop (at + 1) s) (le-ltb 2 (getD s at 0 / 8 % 4) d))
+    variable-values r d = then-got _ (byte-got s at h) ∙ then-got _ (refuse-no 12 (drop (at + 1) s) (le-ltb 31 (getD s at 0) r))
+        ∙ then-got _ (refuse-no 12 (drop (at + 1) s) (le-ltb 2 (getD s at 0 / 8 % 4) d))
 
   pub head-end : (t : ℕ) → length s ≤ at → head t (drop at s) ≡ refused 11
   unfolding head
@@ -199,7 +201,8 @@ module _ (s : List ℕ) (at : ℕ) where
 
     pub head-code : getD s at 0 ≤ 7 → 2 < getD s at 0 % 4 → head t (drop at s) ≡ refused 12
     unfolding head
-    head-code r d = then-got _ (byte-got s at h) ∙ then-got _ (refuse-no 12 (drop (at + 1) s) (le-ltb 7 (getD s at 0) r)) ∙ then-refused _ (refuse-yes 12 (drop (at + 1) s) (lt-ltb 2 (getD s at 0 % 4) d))
+    head-code r d = then-got _ (byte-got s at h) ∙ then-got _ (refuse-no 12 (drop (at + 1) s) (le-ltb 7 (getD s at 0) r))
+        ∙ then-refused _ (refuse-yes 12 (drop (at + 1) s) (lt-ltb 2 (getD s at 0 % 4) d))
 
     pub head-side : getD s at 0 ≤ 7 → getD s at 0 % 4 ≤ 2 → head t (drop at s) ≡ side t (getD s at 0) (drop (at + 1) s)
     unfolding head

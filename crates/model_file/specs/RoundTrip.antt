@@ -13,7 +13,8 @@ use Rattle.model_file.specs.declared.Variable.{Variable}
 use Rattle.model_file.specs.declared.Term.{Term}
 use Rattle.model_file.specs.declared.RowHead.{RowHead}
 use Rattle.model_file.specs.declared.Settings.{Settings}
-use Rattle.model_file.specs.Format.{got, Parser, byte, number, float, optional, count, code, rules, settings, values, variable, side, head, term, many, row, Row, rows, ends, allTerms, Lists, lists, end, whole, file, decoded, decode}
+use Rattle.model_file.specs.Format.{got, Parser, byte, number, float, optional, count, code, rules, settings, values, variable, side, head}
+use Rattle.model_file.specs.Format.{term, many, row, Row, rows, ends, allTerms, Lists, lists, end, whole, file, decoded, decode}
 use Rattle.model_file.specs.Places.{then-got, refuse-no, optional-present}
 use Rattle.model_file.specs.Encode.{bytesOf, floatBytes, each, variableBytes, termBytes, rowBytes, variablesOf, termsOf, rowsOf, encode, Every, Held, Code, Short, Rising, Starts, WellFormed}
 
@@ -45,7 +46,8 @@ pub record VariableOk (v : Variable) : Type 0 where
 
 variable-bytes : (v : Variable) (s : List ℕ) → variableBytes v ++ s ≡ (7 + 8 * v .domain) ∷ (floatBytes (v .objective) ++ (floatBytes (v .lower) ++ (floatBytes (v .upper) ++ s)))
 unfolding variableBytes
-variable-bytes v s = ap (λ (l : List ℕ). (7 + 8 * v .domain) ∷ l) (append-assoc (floatBytes (v .objective)) (floatBytes (v .lower) ++ floatBytes (v .upper)) s ∙ ap (λ (l : List ℕ). floatBytes (v .objective) ++ l) (append-assoc (floatBytes (v .lower)) (floatBytes (v .upper)) s))
+variable-bytes v s = ap (λ (l : List ℕ). (7 + 8 * v .domain) ∷ l) (append-assoc (floatBytes (v .objective)) (floatBytes (v .lower) ++ floatBytes (v .upper)) s
+    ∙ ap (λ (l : List ℕ). floatBytes (v .objective) ++ l) (append-assoc (floatBytes (v .lower)) (floatBytes (v .upper)) s))
 
 variable-back : (v : Variable) (s : List ℕ) → VariableOk v → variable (variableBytes v ++ s) ≡ got v s
 unfolding variable values
@@ -62,7 +64,8 @@ variable-back v s k =
     ∙ ap (λ (d : ℕ). got (record { objective = v .objective; lower = v .lower; upper = v .upper; domain = d }) s) z
 
 -- ---- many
-many-back : {A : Type 0} (p : Parser A) (f : A → List ℕ) (P : A → Type 0) → ((x : A) (s : List ℕ) → P x → p (f x ++ s) ≡ got x s) → (xs : List A) (s : List ℕ) → Every P xs → many p (length xs) (each f xs ++ s) ≡ got xs s
+many-back : {A : Type 0} (p : Parser A) (f : A → List ℕ) (P : A → Type 0) → ((x : A) (s : List ℕ) → P x → p (f x ++ s) ≡ got x s) → (xs : List A) (s : List ℕ)
+    → Every P xs → many p (length xs) (each f xs ++ s) ≡ got xs s
 unfolding many each
 many-back p f P h [] s k = refl
 many-back p f P h (x ∷ xs) s k =
@@ -92,7 +95,8 @@ pub record RowOk (t : ℕ) (r : Row) : Type 0 where
 
 row-bytes : (r : Row) (s : List ℕ) → rowBytes r ++ s ≡ (4 + r .head .cmp) ∷ (floatBytes (r .head .rhs) ++ (bytesOf 2 (r .head .count) ++ (each termBytes (r .terms) ++ s)))
 unfolding rowBytes
-row-bytes r s = ap (λ (l : List ℕ). (4 + r .head .cmp) ∷ l) (append-assoc (floatBytes (r .head .rhs)) (bytesOf 2 (r .head .count) ++ each termBytes (r .terms)) s ∙ ap (λ (l : List ℕ). floatBytes (r .head .rhs) ++ l) (append-assoc (bytesOf 2 (r .head .count)) (each termBytes (r .terms)) s))
+row-bytes r s = ap (λ (l : List ℕ). (4 + r .head .cmp) ∷ l) (append-assoc (floatBytes (r .head .rhs)) (bytesOf 2 (r .head .count) ++ each termBytes (r .terms))
+    s ∙ ap (λ (l : List ℕ). floatBytes (r .head .rhs) ++ l) (append-assoc (bytesOf 2 (r .head .count)) (each termBytes (r .terms)) s))
 
 head-back : (t : ℕ) (h : RowHead) (s : List ℕ) → Code (h .cmp) → Held (h .rhs) → t + h .count ≤ 512 → head t ((4 + h .cmp) ∷ (floatBytes (h .rhs) ++ (bytesOf 2 (h .count) ++ s))) ≡ got h s
 unfolding head side
@@ -147,7 +151,8 @@ code-back : (n : ℕ) (s : List ℕ) → Code n → code (n ∷ s) ≡ got n s
 unfolding code
 code-back n s h = then-got _ (byte-back n s) ∙ then-got _ (refuse-no 12 s (le-ltb 2 n (omega arith)))
 
-settings-back : (h : Settings) (s : List ℕ) → h .vars ≤ 128 → h .rows ≤ 128 → Held (h .feasibility) → Held (h .«int_tol») → Code (h .mode) → settings (bytesOf 2 (h .vars) ++ (bytesOf 2 (h .rows) ++ (floatBytes (h .feasibility) ++ (floatBytes (h .«int_tol») ++ (h .mode ∷ s))))) ≡ got h s
+settings-back : (h : Settings) (s : List ℕ) → h .vars ≤ 128 → h .rows ≤ 128 → Held (h .feasibility) → Held (h .«int_tol») → Code (h .mode)
+    → settings (bytesOf 2 (h .vars) ++ (bytesOf 2 (h .rows) ++ (floatBytes (h .feasibility) ++ (floatBytes (h .«int_tol») ++ (h .mode ∷ s))))) ≡ got h s
 unfolding settings rules
 settings-back h s v r f i m =
     then-got _ (count-back (h .vars) _ v)
@@ -156,12 +161,16 @@ settings-back h s v r f i m =
     ∙ then-got _ (float-back (h .«int_tol») _ i)
     ∙ then-got _ (code-back (h .mode) s m)
 
-sheet-back : (h : Settings) (vs : List Variable) (rs : List Row) → SheetOk h vs rs → decode (bytesOf 2 (h .vars) ++ (bytesOf 2 (h .rows) ++ (floatBytes (h .feasibility) ++ (floatBytes (h .«int_tol») ++ (h .mode ∷ (each variableBytes vs ++ each rowBytes rs)))))) ≡ file (lists h vs rs)
+sheet-back : (h : Settings) (vs : List Variable) (rs : List Row) → SheetOk h vs rs
+    → decode (bytesOf 2 (h .vars)
+    ++ (bytesOf 2 (h .rows) ++ (floatBytes (h .feasibility) ++ (floatBytes (h .«int_tol») ++ (h .mode ∷ (each variableBytes vs ++ each rowBytes rs))))))
+    ≡ file (lists h vs rs)
 unfolding decode decoded whole end
 sheet-back h vs rs k =
     ap decoded
     (then-got _ (settings-back h (each variableBytes vs ++ each rowBytes rs) (k .fewVars) (k .fewRows) (k .feasibility) (k .intTol) (k .mode))
-    ∙ then-got _ (ap (λ (n : ℕ). many variable n (each variableBytes vs ++ each rowBytes rs)) (sym (k .vars)) ∙ many-back variable variableBytes VariableOk variable-back vs (each rowBytes rs) (k .variables))
+    ∙ then-got _ (ap (λ (n : ℕ). many variable n (each variableBytes vs ++ each rowBytes rs)) (sym (k .vars))
+    ∙ many-back variable variableBytes VariableOk variable-back vs (each rowBytes rs) (k .variables))
     ∙ then-got _ (ap (λ (n : ℕ). rows n 0 (each rowBytes rs)) (sym (k .rowCount)) ∙ ap (rows (length rs) 0) (sym (append-nil (each rowBytes rs))) ∙ rows-back 0 rs [] (k .rowsOk))
     ∙ then-got _ refl)
 
@@ -179,7 +188,8 @@ none : {A : Type 0} (l : List A) → length l ≡ 0 → [] ≡ l
 none [] e = refl
 none (x ∷ l) e = absurd (omega arith)
 
-variables-are : (os ls us : List Float) (ds : List ℕ) → length ls ≡ length os → length us ≡ length os → length ds ≡ length os → Every Held os → Every Held ls → Every Held us → Every Code ds → VariablesAre os ls us ds (variablesOf os ls us ds)
+variables-are : (os ls us : List Float) (ds : List ℕ) → length ls ≡ length os → length us ≡ length os → length ds ≡ length os → Every Held os → Every Held ls
+    → Every Held us → Every Code ds → VariablesAre os ls us ds (variablesOf os ls us ds)
 unfolding variablesOf
 variables-are [] ls us ds a b c o l u d = record { objective = refl; lower = none ls a; upper = none us b; domain = none ds c; ok = tt }
 variables-are (x ∷ os) [] us ds a b c o l u d = absurd (omega arith)
@@ -236,7 +246,8 @@ rising-le : (t : ℕ) (es : List ℕ) (n : ℕ) → Rising t es n → t ≤ n
 rising-le t [] n r = omega arith
 rising-le t (e ∷ es) n r = let z = rising-le e es n (r .1) in omega (arith, z, r .0)
 
-rows-are : (t n : ℕ) (es : List ℕ) (ts : List Term) (qs : List ℕ) (bs : List Float) → n ≤ 512 → Rising t es n → t + length ts ≡ n → length qs ≡ length es → length bs ≡ length es → Every TermOk ts → Every Code qs → Every Held bs → RowsAre t es ts qs bs (rowsOf t es ts qs bs)
+rows-are : (t n : ℕ) (es : List ℕ) (ts : List Term) (qs : List ℕ) (bs : List Float) → n ≤ 512 → Rising t es n → t + length ts ≡ n → length qs ≡ length es
+    → length bs ≡ length es → Every TermOk ts → Every Code qs → Every Held bs → RowsAre t es ts qs bs (rowsOf t es ts qs bs)
 unfolding rowsOf ends allTerms
 rows-are t n [] ts qs bs h r e a b x q s = record { starts = refl; terms = none ts (omega arith); cmp = none qs a; rhs = none bs b; ok = tt }
 rows-are t n (d ∷ es) ts [] bs h r e a b x q s = absurd (omega arith)
@@ -279,7 +290,8 @@ round-trip f w =
     let v = variables-are (f .objective) (f .lower) (f .upper) (f .domain) (w .lowers) (w .uppers) (w .domains) (w .objectiveHeld) (w .lowerHeld) (w .upperHeld) (w .domainCode) in
     let t = terms-are (f .index) (f .coeff) (w .coeffs) (w .indexShort) (w .coeffHeld) in
     let e : length (drop 1 (f .starts)) ≡ length (f .cmp) = omega (arith, length-drop 1 (f .starts), w .starts) in
-    let r = rows-are 0 n (drop 1 (f .starts)) ts (f .cmp) (f .rhs) (w .terms) (starts-rise (f .starts) n (w .rising)) (omega (arith, t .count)) (sym e) (w .sides ∙ sym e) (t .ok) (w .cmpCode) (w .rhsHeld) in
+    let r = rows-are 0 n (drop 1 (f .starts)) ts (f .cmp) (f .rhs) (w .terms) (starts-rise (f .starts) n (w .rising)) (omega (arith, t .count)) (sym e)
+    (w .sides ∙ sym e) (t .ok) (w .cmpCode) (w .rhsHeld) in
     let h : Settings = record { vars = length (f .objective); rows = length (f .cmp); feasibility = f .feasibility; «int_tol» = f .intTol; mode = f .mode } in
     let k : SheetOk h vs rs =
     record {

@@ -13,7 +13,8 @@ use Rattle.model_file.specs.declared.Settings.{Settings}
 use Rattle.model_file.specs.declared.NumberRead.{NumberRead}
 use Rattle.model_file.specs.declared.Next.{Next}
 use Rattle.model_file.specs.declared.FileRead.{FileRead}
-use Rattle.model_file.specs.Format.{Got, refused, got, Parser, andThen, many, settings, variable, term, head, row, Row, rows, allTerms, Lists, lists, end, whole, Decoded, refusal, file, decoded, decode}
+use Rattle.model_file.specs.Format.{Got, refused, got, Parser, andThen, many, settings, variable, term, head, row, Row, rows}
+use Rattle.model_file.specs.Format.{allTerms, Lists, lists, end, whole, Decoded, refusal, file, decoded, decode}
 use Rattle.model_file.specs.Places.{numberGot, then-got, then-refused}
 use Rattle.model_file.specs.Reading.{headerOf}
 
@@ -168,7 +169,8 @@ module _ (t : ℕ) (s : List ℕ) where
       let x = had (upto t) (row t s) e r q in
       let y : t + x .value .head .count ≡ e = map-value (upto t) (x .is) q in
       let z : suc k - 1 ≡ k = omega arith in
-      ap (mapGot (after t)) (rows-cons t s k (x .is)) ∙ map-after t (x .value) (rows k (t + x .value .head .count) r) ∙ ap (λ (m : ℕ). mapGot (after m) (rows k m r)) y ∙ ap (λ (m : ℕ). mapGot (after e) (rows m e r)) (sym z)
+      ap (mapGot (after t)) (rows-cons t s k (x .is)) ∙ map-after t (x .value) (rows k (t + x .value .head .count) r) ∙ ap
+      (λ (m : ℕ). mapGot (after m) (rows k m r)) y ∙ ap (λ (m : ℕ). mapGot (after e) (rows m e r)) (sym z)
 
   pub rows-bad : (k : ℕ) {n : ℕ} → 0 < k → mapGot (upto t) (row t s) ≡ refused n → mapGot (after t) (rows k t s) ≡ refused n
   unfolding mapGot
@@ -231,12 +233,16 @@ module _ (h : Settings) (g : Got (List Row)) where
   unfolding rowsSeen
   tail-more s a {t} e l = let x = had (after 0) g t (drop a s) e in sym (ap (rowsSeen h) (x .is ∙ ap (got (x .value)) (drop-cons s a 0 l)))
 
-  pub tail-done : (s : List ℕ) (a : ℕ) {t : ℕ} → mapGot (after 0) g ≡ got t (drop a s) → length s ≤ a → FileRead.Model (record { vars = h .vars; rows = h .rows; terms = t; feasibility = h .feasibility; «int_tol» = h .«int_tol»; mode = h .mode }) ≡ rowsSeen h g
+  pub tail-done : (s : List ℕ) (a : ℕ) {t : ℕ} → mapGot (after 0) g ≡ got t (drop a s) → length s ≤ a
+      → FileRead.Model (record { vars = h .vars; rows = h .rows; terms = t; feasibility = h .feasibility; «int_tol» = h .«int_tol»; mode = h .mode })
+      ≡ rowsSeen h g
   unfolding rowsSeen
   tail-done s a {t} e l =
       let x = had (after 0) g t (drop a s) e in
       let y : after 0 (x .value) ≡ t = map-value (after 0) (x .is) e in
-      sym (ap (rowsSeen h) (x .is ∙ ap (got (x .value)) (drop-of-length-le s l)) ∙ ap (λ (m : ℕ). FileRead.Model (record { vars = h .vars; rows = h .rows; terms = m; feasibility = h .feasibility; «int_tol» = h .«int_tol»; mode = h .mode })) y)
+      sym (ap (rowsSeen h) (x .is ∙ ap (got (x .value)) (drop-of-length-le s l)) ∙ ap
+      (λ (m : ℕ). FileRead.Model
+      (record { vars = h .vars; rows = h .rows; terms = m; feasibility = h .feasibility; «int_tol» = h .«int_tol»; mode = h .mode })) y)
 
 lists-header : (h : Settings) (vs : List Variable) (rs : List Row) → length vs ≡ h .vars → RowsAre (h .rows) rs → FileRead.Model (headerOf (lists h vs rs)) ≡ rowsSeen h (got rs [])
 unfolding headerOf lists rowsSeen

@@ -26,7 +26,8 @@ fn put_variable(
     x: Variable,
 )
     requires { ⌜ (v < length (now objective)) × (v < length (now lower)) × (v < length (now upper)) × (v < length (now domain)) ⌝ }
-    ensures { λ _. ⌜ varColumns (now (objective .exit)) (now (lower .exit)) (now (upper .exit)) (now (domain .exit)) ≡ putVar v x (varColumns (now (objective .entry)) (now (lower .entry)) (now (upper .entry)) (now (domain .entry))) ⌝ }
+    ensures { λ _. ⌜ varColumns (now (objective .exit)) (now (lower .exit)) (now (upper .exit)) (now (domain .exit))
+        ≡ putVar v x (varColumns (now (objective .entry)) (now (lower .entry)) (now (upper .entry)) (now (domain .entry))) ⌝ }
 {
     objective[v] = x.objective;
     lower[v] = x.lower;
@@ -45,7 +46,8 @@ fn fill_variables(
     domain: &mut [u8],
 ) -> Next
     requires { ⌜ (n ≤ length (now objective)) × (n ≤ length (now lower)) × (n ≤ length (now upper)) × (n ≤ length (now domain)) ⌝ }
-    ensures { λ r. ⌜ Filled variable putVar n (now (s .entry)) from 0 r (varColumns (now (objective .entry)) (now (lower .entry)) (now (upper .entry)) (now (domain .entry))) (varColumns (now (objective .exit)) (now (lower .exit)) (now (upper .exit)) (now (domain .exit))) ⌝ }
+    ensures { λ r. ⌜ Filled variable putVar n (now (s .entry)) from 0 r (varColumns (now (objective .entry)) (now (lower .entry)) (now (upper .entry))
+        (now (domain .entry))) (varColumns (now (objective .exit)) (now (lower .exit)) (now (upper .exit)) (now (domain .exit))) ⌝ }
 {
     let mut at = from;
     let mut v = 0;
@@ -108,7 +110,8 @@ fn fill_row(
 ) -> NumberRead
     requires { ⌜ (t ≤ 512) × (r + 1 < length (now starts)) × (r < length (now cmp)) × (r < length (now rhs)) ⌝ }
     requires { ⌜ Within (mapGot (upto t) (row t (drop at (now s)))) (length (now index)) × Within (mapGot (upto t) (row t (drop at (now s)))) (length (now coeff)) ⌝ }
-    ensures { λ z. ⌜ RowFilled (now (s .entry)) at r t z (rowColumns (now (starts .entry)) (now (index .entry)) (now (coeff .entry)) (now (cmp .entry)) (now (rhs .entry))) (rowColumns (now (starts .exit)) (now (index .exit)) (now (coeff .exit)) (now (cmp .exit)) (now (rhs .exit))) ⌝ }
+    ensures { λ z. ⌜ RowFilled (now (s .entry)) at r t z (rowColumns (now (starts .entry)) (now (index .entry)) (now (coeff .entry)) (now (cmp .entry))
+        (now (rhs .entry))) (rowColumns (now (starts .exit)) (now (index .exit)) (now (coeff .exit)) (now (cmp .exit)) (now (rhs .exit))) ⌝ }
 {
     match parts::read_head(s, at, t) {
         HeadRead::Refused(x) => NumberRead::Refused(x),
@@ -138,7 +141,9 @@ fn fill_rows(
 )
     requires { ⌜ (n < length (now starts)) × (n ≤ length (now cmp)) × (n ≤ length (now rhs)) ⌝ }
     requires { ⌜ Within (mapGot (after 0) (rows n 0 (drop from (now s)))) (length (now index)) × Within (mapGot (after 0) (rows n 0 (drop from (now s)))) (length (now coeff)) ⌝ }
-    ensures { λ z. ⌜ rowColumns (now (starts .exit)) (now (index .exit)) (now (coeff .exit)) (now (cmp .exit)) (now (rhs .exit)) ≡ fillRows n (drop from (now (s .entry))) 0 0 (rowColumns (set (now (starts .entry)) 0 0) (now (index .entry)) (now (coeff .entry)) (now (cmp .entry)) (now (rhs .entry))) ⌝ }
+    ensures { λ z. ⌜ rowColumns (now (starts .exit)) (now (index .exit)) (now (coeff .exit)) (now (cmp .exit)) (now (rhs .exit))
+        ≡ fillRows n (drop from (now (s .entry))) 0 0 (rowColumns (set (now (starts .entry)) 0 0) (now (index .entry)) (now (coeff .entry)) (now (cmp .entry))
+        (now (rhs .entry))) ⌝ }
 {
     let mut at = from;
     let mut t = 0;
@@ -159,7 +164,7 @@ fn fill_rows(
 }
 
 // The whole file.
-pub fn fill_model(
+pub(crate) fn fill_model(
     bytes: &[u8],
     objective: &mut [f64],
     lower: &mut [f64],
@@ -172,7 +177,10 @@ pub fn fill_model(
     rhs: &mut [f64],
 )
     requires { ⌜ Ready (now bytes) (slices (now objective) (now lower) (now upper) (now domain) (now starts) (now index) (now coeff) (now cmp) (now rhs)) ⌝ }
-    ensures { λ _. ⌜ slices (now (objective .exit)) (now (lower .exit)) (now (upper .exit)) (now (domain .exit)) (now (starts .exit)) (now (index .exit)) (now (coeff .exit)) (now (cmp .exit)) (now (rhs .exit)) ≡ readInto (now (bytes .entry)) (slices (now (objective .entry)) (now (lower .entry)) (now (upper .entry)) (now (domain .entry)) (now (starts .entry)) (now (index .entry)) (now (coeff .entry)) (now (cmp .entry)) (now (rhs .entry))) .lent ⌝ }
+    ensures { λ _. ⌜ slices (now (objective .exit)) (now (lower .exit)) (now (upper .exit)) (now (domain .exit)) (now (starts .exit)) (now (index .exit))
+        (now (coeff .exit)) (now (cmp .exit)) (now (rhs .exit)) ≡ readInto (now (bytes .entry))
+        (slices (now (objective .entry)) (now (lower .entry)) (now (upper .entry)) (now (domain .entry)) (now (starts .entry)) (now (index .entry))
+        (now (coeff .entry)) (now (cmp .entry)) (now (rhs .entry))) .lent ⌝ }
 {
     match parts::read_settings(bytes) {
         SettingsRead::Refused(_) => {

@@ -151,7 +151,10 @@ pub fn read_model(
     cmp: &mut [u8],
     rhs: &mut [f64],
 ) -> FileRead
-    ensures { λ r. ⌜ out r (slices (now (objective .exit)) (now (lower .exit)) (now (upper .exit)) (now (domain .exit)) (now (starts .exit)) (now (index .exit)) (now (coeff .exit)) (now (cmp .exit)) (now (rhs .exit))) ≡ readInto (now (bytes .entry)) (slices (now (objective .entry)) (now (lower .entry)) (now (upper .entry)) (now (domain .entry)) (now (starts .entry)) (now (index .entry)) (now (coeff .entry)) (now (cmp .entry)) (now (rhs .entry))) ⌝ }
+    ensures { λ r. ⌜ out r (slices (now (objective .exit)) (now (lower .exit)) (now (upper .exit)) (now (domain .exit)) (now (starts .exit)) (now (index .exit))
+        (now (coeff .exit)) (now (cmp .exit)) (now (rhs .exit))) ≡ readInto (now (bytes .entry))
+        (slices (now (objective .entry)) (now (lower .entry)) (now (upper .entry)) (now (domain .entry)) (now (starts .entry)) (now (index .entry))
+        (now (coeff .entry)) (now (cmp .entry)) (now (rhs .entry))) ⌝ }
 {
     match scan::scan(bytes) {
         FileRead::Refused(n) => FileRead::Refused(n),

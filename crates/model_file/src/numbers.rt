@@ -10,14 +10,14 @@ ghost use Rattle.model_file.specs.Format.{float, optional, count};
 ghost use Rattle.model_file.specs.Places.{NumberAt, numberGot, floatGot};
 
 // How many bytes stand from at on.
-pub fn left(s: &[u8], at: usize) -> usize
+pub(crate) fn left(s: &[u8], at: usize) -> usize
     ensures { λ r. ⌜ r ≡ length (now (s .entry)) - at ⌝ }
 {
     if at < s.len() { s.len() - at } else { 0 }
 }
 
 // The bit of a map that has this weight.
-pub fn bit(map: u8, weight: u8) -> bool
+pub(crate) fn bit(map: u8, weight: u8) -> bool
     requires { ⌜ 0 < weight ⌝ }
     ensures { λ r. ⌜ r ≡ eqb (map / weight % 2) 1 ⌝ }
 {
@@ -25,7 +25,7 @@ pub fn bit(map: u8, weight: u8) -> bool
 }
 
 // The two bytes from at on.
-pub fn u16_at(s: &[u8], at: usize) -> usize
+pub(crate) fn u16_at(s: &[u8], at: usize) -> usize
     requires { ⌜ at + 2 ≤ length (now s) ⌝ }
     ensures { λ r. ⌜ NumberAt 2 at (now (s .entry)) r ⌝ }
 {
@@ -58,7 +58,7 @@ fn float_of(bits: u64) -> f64
     f64::from_bits(bits)
 }
 
-pub fn read_float(s: &[u8], at: usize) -> FloatRead
+pub(crate) fn read_float(s: &[u8], at: usize) -> FloatRead
     ensures { λ r. ⌜ float (drop at (now (s .entry))) ≡ floatGot (now (s .entry)) r ⌝ }
 {
     if left(s, at) < 8 {
@@ -68,7 +68,7 @@ pub fn read_float(s: &[u8], at: usize) -> FloatRead
 }
 
 // A float that its map announces, or else absent.
-pub fn read_optional(s: &[u8], at: usize, present: bool, absent: f64) -> FloatRead
+pub(crate) fn read_optional(s: &[u8], at: usize, present: bool, absent: f64) -> FloatRead
     ensures { λ r. ⌜ optional present absent (drop at (now (s .entry))) ≡ floatGot (now (s .entry)) r ⌝ }
 {
     if present {
@@ -78,7 +78,7 @@ pub fn read_optional(s: &[u8], at: usize, present: bool, absent: f64) -> FloatRe
 }
 
 // A count of variables or rows.
-pub fn read_count(s: &[u8], at: usize) -> NumberRead
+pub(crate) fn read_count(s: &[u8], at: usize) -> NumberRead
     ensures { λ r. ⌜ count (drop at (now (s .entry))) ≡ numberGot (now (s .entry)) r ⌝ }
 {
     if left(s, at) < 2 {

@@ -50,7 +50,7 @@ fn read_values(s: &[u8], at: usize, map: u8) -> VariableRead
     }
 }
 
-pub fn read_variable(s: &[u8], at: usize) -> VariableRead
+pub(crate) fn read_variable(s: &[u8], at: usize) -> VariableRead
     ensures { λ r. ⌜ variable (drop at (now (s .entry))) ≡ variableGot (now (s .entry)) r ⌝ }
 {
     if s.len() <= at {
@@ -93,7 +93,7 @@ fn read_side(s: &[u8], at: usize, t: usize, map: u8) -> HeadRead
     }
 }
 
-pub fn read_head(s: &[u8], at: usize, t: usize) -> HeadRead
+pub(crate) fn read_head(s: &[u8], at: usize, t: usize) -> HeadRead
     requires { ⌜ t ≤ 512 ⌝ }
     ensures { λ r. ⌜ HeadIs t (now (s .entry)) r (head t (drop at (now (s .entry)))) ⌝ }
 {
@@ -110,7 +110,7 @@ pub fn read_head(s: &[u8], at: usize, t: usize) -> HeadRead
     read_side(s, at + 1, t, map)
 }
 
-pub fn read_term(s: &[u8], at: usize) -> TermRead
+pub(crate) fn read_term(s: &[u8], at: usize) -> TermRead
     ensures { λ r. ⌜ term (drop at (now (s .entry))) ≡ termGot (now (s .entry)) r ⌝ }
 {
     if numbers::left(s, at) < 2 {
@@ -154,7 +154,7 @@ fn read_rules(s: &[u8], vars: usize, rows: usize, at: usize) -> SettingsRead
     }
 }
 
-pub fn read_settings(s: &[u8]) -> SettingsRead
+pub(crate) fn read_settings(s: &[u8]) -> SettingsRead
     ensures { λ r. ⌜ settings (now (s .entry)) ≡ settingsGot (now (s .entry)) r ⌝ }
 {
     match numbers::read_count(s, 0) {

@@ -113,7 +113,7 @@ fn scan_rows(s: &[u8], at: usize, h: Settings) -> FileRead
 }
 
 // What the file is: its header, or its refusal.
-pub fn scan(s: &[u8]) -> FileRead
+pub(crate) fn scan(s: &[u8]) -> FileRead
     ensures { λ r. ⌜ r ≡ seen (decode (now (s .entry))) ⌝ }
 {
     match parts::read_settings(s) {

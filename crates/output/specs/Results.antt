@@ -5,7 +5,7 @@ use lib.ListN.{length}
 use lib.Ieee.{Float}
 use Rattle.definition.specs.Model.{Emit, Reduced}
 use Rattle.space.specs.declared.Shape.{Shape}
-use Rattle.emit.specs.RowMark.{mark}
+use Rattle.row_terms.specs.RowMark.{mark}
 use Rattle.emit.specs.Filling.{over}
 use Rattle.emit.specs.Terms.{varsOf, coeffsOf}
 

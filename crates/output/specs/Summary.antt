@@ -85,5 +85,7 @@ module _ (s : Shape) (ls us : List Float) (f : Floats) (e k : ℕ) {z : Bool} (c
 abbrev pub reducedOf : Shape → List Float → List Float → Floats → Numbers → ℕ → ℕ → ℕ → Reduced
 reducedOf s ls us f n e t k = record { counts = countsOf n; emitted = e; terms = t; kept = k; flag = differsBy s ls us f e k }
 
-pub result-is : {k k′ : Counts} {b b′ : Bool} {e t j : ℕ} → k ≡ k′ → b ≡ b′ → _≡_ {A = Reduced} (record { counts = k; emitted = e; terms = t; kept = j; flag = b }) (record { counts = k′; emitted = e; terms = t; kept = j; flag = b′ })
+pub result-is : {k k′ : Counts} {b b′ : Bool} {e t j : ℕ} → k ≡ k′ → b ≡ b′
+    → _≡_ {A = Reduced} (record { counts = k; emitted = e; terms = t; kept = j; flag = b })
+    (record { counts = k′; emitted = e; terms = t; kept = j; flag = b′ })
 result-is p q = rw (p, q)

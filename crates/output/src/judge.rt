@@ -1,4 +1,5 @@
-// The fate of each row, and the bound that a rewritten row goes out with, in the working slices.
+// src/presolve/mod.rs of microlp 0.7.0, changed: the fate of each row, and the bound that a rewritten
+// row goes out with, in the working slices.
 ghost use mathlib.Core.Path.{_≡_};
 ghost use mathlib.Core.Bool.{false};
 ghost use Prim.Native.Nat.{_<_};
@@ -26,7 +27,8 @@ fn judge_touched(
     requires { ⌜ (r < s .rows) × HoldsF s (now w) × HoldsN s (now m) × Alive (numbersOf s (now m)) r × (getD (numbersOf s (now m) .touched) r 0 ≡ 1) ⌝ }
     requires { ⌜ TellsTrivial s (now starts) (now cmp) (now rhs) r false ⌝ }
     requires { ⌜ Ready (Written (now starts) (now index) (now coeff) (now cmp) (now rhs)) s (floatsOf s (now w)) (numbersOf s (now m)) ⌝ }
-    ensures { λ _. ⌜ JudgedRow (Written (now (starts .entry)) (now (index .entry)) (now (coeff .entry)) (now (cmp .entry)) (now (rhs .entry))) s (floatsOf s (now (w .entry))) (numbersOf s (now (m .entry))) (floatsOf s (now (w .exit))) (numbersOf s (now (m .exit))) r ⌝ }
+    ensures { λ _. ⌜ JudgedRow (Written (now (starts .entry)) (now (index .entry)) (now (coeff .entry)) (now (cmp .entry)) (now (rhs .entry))) s
+        (floatsOf s (now (w .entry))) (numbersOf s (now (m .entry))) (floatsOf s (now (w .exit))) (numbersOf s (now (m .exit))) r ⌝ }
 {
     let b = coeffs::rewritten_bound(starts, index, coeff, cmp, rhs, w, m, s, r);
     if floats::is_finite(b) {
@@ -51,7 +53,8 @@ fn judge_row(
 )
     requires { ⌜ (r < s .rows) × HoldsF s (now w) × HoldsN s (now m) ⌝ }
     requires { ⌜ Ready (Written (now starts) (now index) (now coeff) (now cmp) (now rhs)) s (floatsOf s (now w)) (numbersOf s (now m)) ⌝ }
-    ensures { λ _. ⌜ JudgedRow (Written (now (starts .entry)) (now (index .entry)) (now (coeff .entry)) (now (cmp .entry)) (now (rhs .entry))) s (floatsOf s (now (w .entry))) (numbersOf s (now (m .entry))) (floatsOf s (now (w .exit))) (numbersOf s (now (m .exit))) r ⌝ }
+    ensures { λ _. ⌜ JudgedRow (Written (now (starts .entry)) (now (index .entry)) (now (coeff .entry)) (now (cmp .entry)) (now (rhs .entry))) s
+        (floatsOf s (now (w .entry))) (numbersOf s (now (m .entry))) (floatsOf s (now (w .exit))) (numbersOf s (now (m .exit))) r ⌝ }
 {
     if emit::is_trivial(starts, cmp, rhs, s, r) {
         space::put_fate(m, s, r, 0);
@@ -71,7 +74,7 @@ fn judge_row(
 }
 
 // All rows are judged.
-pub fn judge_rows(
+pub(crate) fn judge_rows(
     starts: &[usize],
     index: &[usize],
     coeff: &[f64],
@@ -83,7 +86,8 @@ pub fn judge_rows(
 )
     requires { ⌜ HoldsF s (now w) × HoldsN s (now m) ⌝ }
     requires { ⌜ Ready (Written (now starts) (now index) (now coeff) (now cmp) (now rhs)) s (floatsOf s (now w)) (numbersOf s (now m)) ⌝ }
-    ensures { λ _. ⌜ Judged (Written (now (starts .entry)) (now (index .entry)) (now (coeff .entry)) (now (cmp .entry)) (now (rhs .entry))) s (floatsOf s (now (w .entry))) (numbersOf s (now (m .entry))) (floatsOf s (now (w .exit))) (numbersOf s (now (m .exit))) (s .rows) ⌝ }
+    ensures { λ _. ⌜ Judged (Written (now (starts .entry)) (now (index .entry)) (now (coeff .entry)) (now (cmp .entry)) (now (rhs .entry))) s
+        (floatsOf s (now (w .entry))) (numbersOf s (now (m .entry))) (floatsOf s (now (w .exit))) (numbersOf s (now (m .exit))) (s .rows) ⌝ }
 {
     let mut r: usize = 0;
     while r < s.rows {

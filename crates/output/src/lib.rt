@@ -1,5 +1,7 @@
-// The end of presolve: the fate of each row is judged, and then the answer is written to the caller's
-// result slices.
+// src/presolve/mod.rs of microlp 0.7.0, changed: the end of `presolve`.
+// The fate of each row is judged, and then the answer is written to the caller's result slices. A
+// rewritten row is also kept as written, since a rewrite holds for whole points only; one whose bound
+// overflows goes out as written, which keeps every point that the rewrites kept.
 mod entries;
 mod judge;
 mod lists;

@@ -1,4 +1,5 @@
-// What comes back beside the result slices.
+// `PresolveStats` and `Presolved::reduced` of src/presolve/model.rs and mod.rs of microlp 0.7.0,
+// changed: what comes back beside the result slices.
 ghost use mathlib.Core.Path.{_≡_};
 ghost use lib.ListN.{length};
 ghost use Rattle.space.specs.Store.{floatsOf, numbersOf, HoldsF, HoldsN};
@@ -41,7 +42,7 @@ fn differs(lower: &[f64], upper: &[f64], w: &[f64], s: Shape, emitted: usize, ke
 }
 
 // What comes back where so many rows are emitted, terms written and rows kept.
-pub fn result(
+pub(crate) fn result(
     lower: &[f64],
     upper: &[f64],
     w: &[f64],

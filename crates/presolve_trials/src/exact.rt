@@ -1,7 +1,6 @@
 // The least lent space, one entry less of each slice, and one working space for several calls.
 use crate::lend;
-use crate::look;
-use crate::look::JUNK;
+use crate::lend::JUNK;
 use crate::print;
 
 // u + v <= 1 and v >= 1.
@@ -28,9 +27,7 @@ fn shorts() {
 }
 
 fn turn(f: &[f64], c: &[u8], w: &mut [f64], u: &mut [usize], j: &mut [usize]) {
-    let a = lend::call(lend::sized(2, 1, 2, 1), f, &[0, 2, 0, 1], c, w, u, j);
-    print::judged(b", working", look::working(a, 7.25, w, 64, u, 64, j, 64));
-    print::text(b"\n");
+    lend::ask_again(lend::sized(2, 1, 2, 1), f, &[0, 2, 0, 1], c, w, u, j, 7.25);
 }
 
 // Day 7 is infeasible, day 8 rewritten.

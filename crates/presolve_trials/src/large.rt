@@ -1,14 +1,14 @@
 // The largest sizes: 4,096 Integer variables, 8,192 rows and 65,536 terms, each row with the next
 // eight variables in turn; then one more of each. The lent slices are exactly as long as needed.
 ghost use Prim.Native.Nat.{_≤_};
+use crate::either;
 use crate::lend;
-use crate::look;
 
 // From a place on, every eighth entry is a, and the others are b.
 fn fill(s: &mut [f64], from: usize, a: f64, b: f64) {
     let mut i = from;
     while i < s.len() {
-        s[i] = look::pick(i % 8 == 0, a, b);
+        s[i] = either::float(i % 8 == 0, a, b);
         i += 1;
     }
 }

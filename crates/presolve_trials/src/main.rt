@@ -4,11 +4,10 @@
 // lent slices hold what they should. The expected text is written by tools/trials_expected.py, and
 // not by a run of this program.
 mod days;
+mod either;
 mod exact;
 mod large;
 mod lend;
-mod look;
-mod part;
 mod print;
 mod refusals;
 

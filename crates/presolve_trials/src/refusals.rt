@@ -1,7 +1,7 @@
 // Refusals 3 to 9, what is just not refused, and which of several faults is named.
+use crate::either;
 use crate::lend::ask;
 use crate::lend::sized;
-use crate::look;
 use crate::print;
 
 // Two Boolean variables in two rows.
@@ -69,14 +69,18 @@ fn limits(nan: f64) {
 fn faults(k: usize) {
     let nan = 0.0 / 0.0;
     let mut p = sized(1, 1, 1, 1);
-    p.feas = look::pick(k <= 9, 0.51, 0.5);
-    p.short = look::choose(k <= 1, 0, look::choose(k <= 10, 9, 22));
+    p.feas = either::float(k <= 9, 0.51, 0.5);
+    p.short = either::number(k <= 1, 0, either::number(k <= 10, 9, 22));
     p.spare = 0;
-    let obj = look::pick(k <= 7, nan, 0.0);
-    let lower = look::pick(k <= 6, nan, 0.0);
-    let rhs = look::pick(k <= 8, nan, 2.0);
+    let obj = either::float(k <= 7, nan, 0.0);
+    let lower = either::float(k <= 6, nan, 0.0);
+    let rhs = either::float(k <= 8, nan, 2.0);
     let f = [obj, lower, 1.0, 1.0, rhs];
-    let n = [look::choose(k <= 3, 1, 0), 1, look::choose(k <= 4, 1, 0)];
+    let n = [
+        either::number(k <= 3, 1, 0),
+        1,
+        either::number(k <= 4, 1, 0),
+    ];
     print::text(b"faults from");
     print::number(k);
     if k <= 5 {

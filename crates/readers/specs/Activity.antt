@@ -41,7 +41,8 @@ module _ {s : Shape} {f : Floats} (v : ℕ) (a lo hi : Float) (act : Activity) {
   within-step {tolHi = tolHi} p q tl tu ez =
       record {
         reads = λ M n o k w x c h i.
-            sym (ez ∙ ap (λ (y : Float). stepOf a lo hi y tolHi act) (sym (tl .reads M n o k w x c h i)) ∙ ap (λ (y : Float). stepOf a lo hi (boundTol M w v false) y act) (sym (tu .reads M n o k w x c h i))
+            sym (ez ∙ ap (λ (y : Float). stepOf a lo hi y tolHi act) (sym (tl .reads M n o k w x c h i)) ∙ ap
+            (λ (y : Float). stepOf a lo hi (boundTol M w v false) y act) (sym (tu .reads M n o k w x c h i))
             ∙ step-of M w lo hi (term v a) act p q);
       }
 
@@ -72,7 +73,8 @@ module _ (M : Model) (w : Work) (lo hi : Float) (t : Term) (act : Activity) wher
   unfolding activityStep
   step-u = either (λ (x : ℕ). x ≤ suc (act .ninfU)) (isFinite (rangeMax (t .coeff) lo hi)) (λ e. omega arith) (λ e. omega arith)
 
-from-cons : (M : Model) (w : Work) (los his : List Float) (act : Activity) (t : Term) (ts : List Term) → activityFrom M w los his act (t ∷ ts) ≡ activityFrom M w los his (activityStep M w (at los (t .var)) (at his (t .var)) t act) ts
+from-cons : (M : Model) (w : Work) (los his : List Float) (act : Activity) (t : Term) (ts : List Term) → activityFrom M w los his act (t ∷ ts)
+    ≡ activityFrom M w los his (activityStep M w (at los (t .var)) (at his (t .var)) t act) ts
 unfolding activityFrom
 from-cons M w los his act t ts = refl
 

@@ -14,7 +14,7 @@ use borrow.Author.Tests.{eqb-true}
 use Rattle.tolerances.specs.Tol.{Term}
 use Rattle.definition.specs.Model.{Model, from, nnz, written, Row, Binding}
 use Rattle.definition.specs.Work.{Work, hasTerm}
-use Rattle.definition.specs.RowsKept.Choices.{and-left}
+use Rattle.definition.specs.Choices.{and-left}
 use Rattle.space.specs.declared.Shape.{Shape}
 use Rattle.space.specs.Store.{Floats, Numbers}
 use Rattle.view.specs.Call.{Call}
@@ -57,7 +57,8 @@ bound-binary {row = row} (isBound {b} s) (someIn i) k l =
     (omega (arith, q, s .fits), subst (λ (v : ℕ). hasTerm v (row .terms ++ row .folded) ≡ true) (sym (s .binary k q)) (nth-binary i k q))
 
 -- v is the k-th binary of row r, which stands at place i
-module _ {M : Model} {s : Shape} {f : Floats} {n : Numbers} {o : List ℕ} {w : Work} {r j : ℕ} (c : Call M s) (h : Shows M f n o w) (p : r < s .rows) (a : Alive n r) (u : Inv M j w) (k v : ℕ) (l : k < getD (n .binaries) r 0) (e : v ≡ getD (n .binary) (from M r + k) 0) where
+module _ {M : Model} {s : Shape} {f : Floats} {n : Numbers} {o : List ℕ} {w : Work} {r j : ℕ} (c : Call M s) (h : Shows M f n o w) (p : r < s .rows)
+    (a : Alive n r) (u : Inv M j w) (k v : ℕ) (l : k < getD (n .binaries) r 0) (e : v ≡ getD (n .binary) (from M r + k) 0) where
   both : (k < nnz M r) × (hasTerm (getD (n .binary) (from M r + k) 0) (rowOf w r .terms ++ rowOf w r .folded) ≡ true)
   both = bound-binary (row-shown c h p a .binding) (row-inv c h p a u .binaries) k l
 
@@ -71,7 +72,8 @@ module _ {M : Model} {s : Shape} {f : Floats} {n : Numbers} {o : List ℕ} {w : 
   binary-written = has-all v (row-inv c h p a u .allIn) binary-has
 
 -- ---- the state that `Ready` has
-module _ {s : Shape} {f : Floats} {n : Numbers} {ss is : List ℕ} {cs : List Float} {os : List ℕ} {bs : List Float} {r k : ℕ} (R : Ready (Written ss is cs os bs) s f n) (p : r < s .rows) (a : Alive n r) (l : k < getD (n .binaries) r 0) where
+module _ {s : Shape} {f : Floats} {n : Numbers} {ss is : List ℕ} {cs : List Float} {os : List ℕ} {bs : List Float} {r k : ℕ}
+    (R : Ready (Written ss is cs os bs) s f n) (p : r < s .rows) (a : Alive n r) (l : k < getD (n .binaries) r 0) where
   from-is : from (R .model) r ≡ getD ss r 0
   unfolding from
   from-is = ap (λ (x : List ℕ). getD x r 0) (R .known .starts)

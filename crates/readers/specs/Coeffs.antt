@@ -71,7 +71,8 @@ unfolding coeffIn orElse choose
 coeff-append v [] ys d = refl
 coeff-append v (t ∷ xs) ys d = go (eqb (t .var) v) (coeff-append v xs ys d)
   where
-    go : (b : Bool) → orElse (coeffIn v (xs ++ ys)) d ≡ orElse (coeffIn v xs) (orElse (coeffIn v ys) d) → orElse (choose b (some (t .coeff)) (coeffIn v (xs ++ ys))) d ≡ orElse (choose b (some (t .coeff)) (coeffIn v xs)) (orElse (coeffIn v ys) d)
+    go : (b : Bool) → orElse (coeffIn v (xs ++ ys)) d ≡ orElse (coeffIn v xs) (orElse (coeffIn v ys) d)
+        → orElse (choose b (some (t .coeff)) (coeffIn v (xs ++ ys))) d ≡ orElse (choose b (some (t .coeff)) (coeffIn v xs)) (orElse (coeffIn v ys) d)
     go true e = refl
     go false e = e
 
@@ -106,7 +107,8 @@ row-term {ss} {s} {f} {n} {r} {row} x k l = go (side k (length (row .terms)))
     go (inr q) =
         let j = k - length (row .terms) in
         let z : k ≡ length (row .terms) + j = omega (arith, q) in
-        let y : getD (row .terms ++ row .folded) k noTerm ≡ getD (row .folded) j noTerm = ap (λ (i : ℕ). getD (row .terms ++ row .folded) i noTerm) z ∙ getD-append-add (row .terms) (row .folded) j noTerm in
+        let y : getD (row .terms ++ row .folded) k noTerm ≡ getD (row .folded) j noTerm = ap (λ (i : ℕ). getD (row .terms ++ row .folded) i noTerm) z
+        ∙ getD-append-add (row .terms) (row .folded) j noTerm in
         let u : k - getD (n .len) r 0 ≡ j = omega (arith, x .len) in
         rw (← place-folded (getD ss r 0) (getD ss (r + 1) 0) {n = getD (n .len) r 0} {k = k} (omega (arith, q, x .len)), y, u)
         (x .folded j (omega (arith, l, q, length-append (row .terms) (row .folded))))
@@ -120,7 +122,8 @@ pub record ReadyTerm (P : Model → Type 0) (s : Shape) (f : Floats) (n : Number
 pub record Seeking (ss : List ℕ) (s : Shape) (f : Floats) (n : Numbers) (r v k : ℕ) : Type 0 where
   pub ready : Ready (Spans ss) s f n
   pub ahead : hasTerm v (drop k (rowOf (ready .work) r .terms ++ rowOf (ready .work) r .folded)) ≡ true
-  pub rest : (M : Model) (o : List ℕ) (j : ℕ) (w : Work) → Spans ss M → Call M s → Shows M f n o w → Inv M j w → orElse (coeffIn v (drop k (rowOf w r .terms ++ rowOf w r .folded))) 0f ≡ coeffOf (rowOf w r) v
+  pub rest : (M : Model) (o : List ℕ) (j : ℕ) (w : Work) → Spans ss M → Call M s → Shows M f n o w → Inv M j w
+      → orElse (coeffIn v (drop k (rowOf w r .terms ++ rowOf w r .folded))) 0f ≡ coeffOf (rowOf w r) v
 
 pub term-long : {ss : List ℕ} {s : Shape} {f : Floats} {n : Numbers} {r v : ℕ} → ReadyTerm (Spans ss) s f n r v → r < s .rows → Alive n r → r + 1 < length ss
 term-long R p a = row-ready (R .ready) (λ M q. q) p a .long

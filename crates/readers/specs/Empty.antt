@@ -55,7 +55,8 @@ from-end x d = refl
 pub record Summing (is : List ℕ) (cs : List Float) (s : Shape) (f : Floats) (a e : ℕ) (b : Float) (i : ℕ) (sum : RowSum) : Type 0 where
   pub past : a ≤ i
   pub upto : i ≤ e
-  pub rest : (M : Model) (n : Numbers) (o : List ℕ) (k : ℕ) (w : Work) → Call M s → Shows M f n o w → Inv M k w → rowFrom (fixedValue w) (sumOf sum) (spanTerms is cs i e) ≡ rowFrom (fixedValue w) (rowStart b) (spanTerms is cs a e)
+  pub rest : (M : Model) (n : Numbers) (o : List ℕ) (k : ℕ) (w : Work) → Call M s → Shows M f n o w → Inv M k w
+      → rowFrom (fixedValue w) (sumOf sum) (spanTerms is cs i e) ≡ rowFrom (fixedValue w) (rowStart b) (spanTerms is cs a e)
 
 module _ {is : List ℕ} {cs : List Float} {s : Shape} {f : Floats} {a e : ℕ} {b : Float} where
   pub sum-start : {sum : RowSum} → a ≤ e → sumOf sum ≡ rowStart b → Summing is cs s f a e b a sum
@@ -118,7 +119,9 @@ module _ {s : Shape} {ss is : List ℕ} {cs : List Float} {os : List ℕ} {bs : 
         rise = omega (arith, c .rise r q, a₁, a₂);
         indices = omega (arith, c .last r q, a₂, ap length (k .index));
         coeffs = omega (arith, c .coeffs, ap length (k .coeff), ap length (k .index));
-        below = record { below = λ i l. let z : getD (M .index) i 0 ≡ getD is i 0 = ap (λ (x : List ℕ). getD x i 0) (k .index) in omega (arith, z, c .vars, c .index i (omega (arith, l, ap length (k .index)))) };
+        below = record {
+          below = λ i l. let z : getD (M .index) i 0 ≡ getD is i 0 = ap (λ (x : List ℕ). getD x i 0) (k .index) in omega (arith, z, c .vars, c .index i (omega (arith, l, ap length (k .index))));
+        };
       }
 
   pub span-ready : {f : Floats} → ReadyF (Written ss is cs os bs) s f → r < s .rows → SpanAt s ss is cs os bs r
@@ -173,7 +176,8 @@ module _ {s : Shape} {f : Floats} {ss is : List ℕ} {cs : List Float} {os : Lis
   empty-true e =
       record {
         reads = λ M n o j w k c h i.
-            violated-by-slack (M .feas) (opOf M r) (written M r) (rhsOf M r) (fixedValue w) ∙ when-true (slackViolates (M .feas) (opOf M r) (impliedSlack (fixedValue w) (rhsOf M r) (written M r))) (says-is r k c p t et ey ∙ e);
+            violated-by-slack (M .feas) (opOf M r) (written M r) (rhsOf M r) (fixedValue w)
+            ∙ when-true (slackViolates (M .feas) (opOf M r) (impliedSlack (fixedValue w) (rhsOf M r) (written M r))) (says-is r k c p t et ey ∙ e);
       }
 
   pub empty-judged : (u : RowSum) (m : Implied) {z : Bool} → y ≡ false
@@ -184,6 +188,7 @@ module _ {s : Shape} {f : Floats} {ss is : List ℕ} {cs : List Float} {os : Lis
         reads = λ M n o j w k c h i.
             let d : impliedSlack (fixedValue w) (rhsOf M r) (written M r) ≡ pairOf m =
             slack-by-terms (fixedValue w) (rhsOf M r) (written M r) ∙ ap rowSlack (sum-is r k c p w ∙ v .reads M n o j w tt c h i) ∙ sym em in
-            violated-by-slack (M .feas) (opOf M r) (written M r) (rhsOf M r) (fixedValue w) ∙ when-false (slackViolates (M .feas) (opOf M r) (impliedSlack (fixedValue w) (rhsOf M r) (written M r))) (says-is r k c p t et ey ∙ e)
+            violated-by-slack (M .feas) (opOf M r) (written M r) (rhsOf M r) (fixedValue w)
+            ∙ when-false (slackViolates (M .feas) (opOf M r) (impliedSlack (fixedValue w) (rhsOf M r) (written M r))) (says-is r k c p t et ey ∙ e)
             ∙ ap (slackViolates (M .feas) (opOf M r)) d ∙ verdict-is r k c p (pairOf m) ∙ sym ez;
       }

@@ -24,7 +24,7 @@ Alive n r = getD (n .alive) r 0 ≡ 1
 pub record ReadsF {A : Type 0} (P : Model → Type 0) (s : Shape) (f : Floats) (z : A) (F : Model → Work → A) : Type 0 where
   pub reads : (M : Model) (n : Numbers) (o : List ℕ) (k : ℕ) (w : Work) → P M → Call M s → Shows M f n o w → Inv M k w → F M w ≡ z
 
--- the same of what the model alone decides
+-- the result is the definition's, of a function that the model alone decides
 pub record ReadsM {A : Type 0} (P : Model → Type 0) (s : Shape) (z : A) (F : Model → A) : Type 0 where
   pub reads : (M : Model) → P M → Call M s → F M ≡ z
 
@@ -36,7 +36,7 @@ pub record ReadyF (P : Model → Type 0) (s : Shape) (f : Floats) : Type 0 where
 pub ready-floats : {P : Model → Type 0} {s : Shape} {f : Floats} {n : Numbers} → Ready P s f n → ReadyF P s f
 ready-floats {n = n} R = record { numbers = n; ready = R }
 
--- the same with no call to look at
+-- the result is the definition's, of a function that the model alone decides and that has no call to look at
 pub record Tells {A : Type 0} (P : Model → Type 0) (z : A) (F : Model → A) : Type 0 where
   pub tells : (M : Model) → P M → F M ≡ z
 

@@ -11,7 +11,7 @@ use Rattle.tolerances.specs.Usual.{usual, usual-tolerance}
 use Rattle.definition.specs.Model.{Model, isInt, isIntDomain, isMip}
 use Rattle.definition.specs.Work.{Work, fixed, boundTol}
 use Rattle.definition.specs.Singles.{fixedValue}
-use Rattle.definition.specs.RowsKept.Choices.{and-left, and-right}
+use Rattle.definition.specs.Choices.{and-left, and-right}
 use Rattle.space.specs.declared.Shape.{Shape}
 use Rattle.space.specs.Store.{Floats, Numbers}
 use Rattle.formulas.specs.Fixing.{intDomain, int-domain-of, fixedAt, fixed-of}

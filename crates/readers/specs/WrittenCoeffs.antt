@@ -95,7 +95,8 @@ module _ {is : List ℕ} {cs : List Float} {start v : ℕ} where
 
   module _ {i : ℕ} (S : SeekingWritten is cs start v i) where
     -- the term at place i of a row as written that starts at start and has v
-    written-now : (M : Model) (r : ℕ) → M .index ≡ is → M .coeff ≡ cs → from M r ≡ start → hasTerm v (written M r) ≡ true → (i - start < length (written M r)) × WrittenAt is cs i (getD (written M r) (i - start) noTerm)
+    written-now : (M : Model) (r : ℕ) → M .index ≡ is → M .coeff ≡ cs → from M r ≡ start → hasTerm v (written M r) ≡ true → (i - start < length (written M r))
+        × WrittenAt is cs i (getD (written M r) (i - start) noTerm)
     written-now M r a b c d =
         let l = drop-in v (written M r) (i - start) (S .ahead M r a b c d .0) in
         let x = written-at M r (i - start) l in

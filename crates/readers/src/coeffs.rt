@@ -1,4 +1,5 @@
-// `Row::coeff` and `rewritten_coeff`: the coefficient of a variable that the row has, by the first match.
+// `Row::coeff` and `rewritten_coeff` of src/presolve/model.rs and work.rs of microlp 0.7.0, changed:
+// the coefficient of a variable that the row has, by the first match.
 ghost use mathlib.Core.Path.{_≡_};
 ghost use Prim.Native.Nat.{_+_, _-_, _≤_, _<_};
 ghost use Rattle.definition.specs.Model.{coeffOf};

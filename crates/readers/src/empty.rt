@@ -1,4 +1,5 @@
-// `empty_row_check`: whether the row as written is violated where every variable of it is fixed.
+// `empty_row_consistent` of src/presolve/work.rs of microlp 0.7.0, changed: whether the row as written
+// is violated where every variable of it is fixed.
 ghost use Prim.Native.Nat.{_≤_, _<_};
 ghost use lib.ListN.{length};
 ghost use Rattle.tolerances.specs.Tol.{violated, rowStart};
@@ -60,7 +61,8 @@ pub fn empty_row_violated(
 ) -> bool
     requires { ⌜ (r < s .rows) × HoldsF s (now w) ⌝ }
     requires { ⌜ ReadyF (Written (now starts) (now index) (now coeff) (now cmp) (now rhs)) s (floatsOf s (now w)) ⌝ }
-    ensures { λ z. ⌜ ReadsF (Written (now (starts .entry)) (now (index .entry)) (now (coeff .entry)) (now (cmp .entry)) (now (rhs .entry))) s (floatsOf s (now (w .entry))) z (λ M u. violated (M .feas) (opOf M r) (written M r) (rhsOf M r) (fixedValue u)) ⌝ }
+    ensures { λ z. ⌜ ReadsF (Written (now (starts .entry)) (now (index .entry)) (now (coeff .entry)) (now (cmp .entry)) (now (rhs .entry))) s
+        (floatsOf s (now (w .entry))) z (λ M u. violated (M .feas) (opOf M r) (written M r) (rhsOf M r) (fixedValue u)) ⌝ }
 {
     let a = starts[r];
     let e = starts[r + 1];

@@ -1,5 +1,5 @@
-// What is read off the state: each function's result is the definition's, of whatever state the
-// working slices show.
+// src/presolve/work.rs of microlp 0.7.0, changed: what is read off the state.
+// Each function's result is the definition's, of whatever state the working slices show.
 mod coeffs;
 mod empty;
 mod rows;
@@ -13,6 +13,5 @@ pub use rows::activity;
 pub use rows::limits;
 pub use rows::working_activity;
 pub use vars::bound_tol;
-pub use vars::fixed_value;
 pub use vars::is_int;
 pub use vars::is_int_domain;

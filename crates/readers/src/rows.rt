@@ -1,4 +1,5 @@
-// What is read of an alive row: its sides, and its activity.
+// `Work::activity` of src/presolve/work.rs of microlp 0.7.0, changed: what is read of an alive row, its
+// sides and its activity.
 ghost use mathlib.Core.Path.{_≡_};
 ghost use mathlib.Core.Bool.{true, _&&_};
 ghost use Prim.Native.Nat.{_+_, _^_, _<_};

@@ -1,5 +1,5 @@
-// What is read of one variable: its domain, the tolerance of a bound of it, and its value where it is
-// fixed.
+// `is_int_domain`, `is_int`, `bound_tol` and the value in `empty_row_consistent` of
+// src/presolve/model.rs and work.rs of microlp 0.7.0, changed: what is read of one variable.
 ghost use Prim.Native.Nat.{_<_};
 ghost use lib.ListN.{length};
 ghost use Rattle.definition.specs.Model.{isInt, isIntDomain};
@@ -41,7 +41,7 @@ pub fn bound_tol(w: &[f64], s: Shape, v: usize, upper: bool) -> f64
 }
 
 // = fixedValue
-pub fn fixed_value(w: &[f64], s: Shape, v: usize) -> f64
+pub(crate) fn fixed_value(w: &[f64], s: Shape, v: usize) -> f64
     requires { ⌜ (v < s .vars) × HoldsF s (now w) ⌝ }
     ensures { λ z. ⌜ ReadsF Any s (floatsOf s (now (w .entry))) z (λ M u. fixedValue u v) ⌝ }
 {

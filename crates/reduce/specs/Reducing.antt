@@ -44,6 +44,13 @@ pub data Reduction (M : Model) (f : Floats) (n : Numbers) : code.Step → Answer
 pub record Reduces (P : Model → Type 0) (s : Shape) (f : Floats) (n : Numbers) (z : code.Step) : Type 0 where
   pub does : (M : Model) → P M → Call M s → Reduction M f n z (presolve M)
 
+-- what the adjacency slice holds: each variable's rows, where presolve comes to its settled rows
+pub record Adjoins (P : Model → Type 0) (s : Shape) (adj : List ℕ) (z : code.Step) : Type 0 where
+  pub adjacency : z ≡ Next → (M : Model) → P M → Call M s → Adjacency M adj
+
+pub adjoins-stopped : {P : Model → Type 0} {s : Shape} {adj : List ℕ} → Adjoins P s adj Stop
+adjoins-stopped = record { adjacency = λ t. absurd (let z : _≡_ {A = ℕ} 0 1 = cc in omega arith) }
+
 pub begins-is : {P : Model → Type 0} {s : Shape} {f : Floats} {n : Numbers} {adj : List ℕ} {z y : code.Step} → Begins P s f n adj z → z ≡ y → Begins P s f n adj y
 begins-is {P} {s} {f} {n} {adj} b e = subst (λ (x : code.Step). Begins P s f n adj x) e b
 
@@ -56,7 +63,8 @@ finish-is : (M : Model) (w : Work) → finish M (next w) ≡ answerOf M (finalOf
 unfolding finish
 finish-is M w = ap (answerOf M) (out-settled M (length (M .rhs)) w)
 
-final-shown : {M : Model} {f : Floats} {n : Numbers} {o : List ℕ} {k : ℕ} {z : code.Step} {y : Step} → StepShown M f n o z y → InvStep M k y → Reduction M f n z (answerOf M (finalOf M (length (M .rhs)) y))
+final-shown : {M : Model} {f : Floats} {n : Numbers} {o : List ℕ} {k : ℕ} {z : code.Step} {y : Step} → StepShown M f n o z y → InvStep M k y
+    → Reduction M f n z (answerOf M (finalOf M (length (M .rhs)) y))
 unfolding finalOf answerOf
 final-shown (stopped h) stops = ended h
 final-shown (went h) (goes i) = settled h i
@@ -85,6 +93,10 @@ module _ {fs ls hs : List Float} {ds : List ℕ} {tol : Float} {ss is : List ℕ
     module _ (b : Begins (Handed ls hs ds tol ss is cs os bs) s f₁ n₁ js Next) where
       running : (M : Model) → Called fs ls hs ds tol ss is cs os bs j M → Call M s → Running fs ds ss is cs os bs js j M
       running M p c = called-running M p (b .adjacency refl M (p .handed) c)
+
+      -- the rounds only read the slice
+      pub adjoins-settled : {z : code.Step} → Adjoins (Called fs ls hs ds tol ss is cs os bs j) s js z
+      adjoins-settled = record { adjacency = λ _ M p c. b .adjacency refl M (p .handed) c }
 
       -- the state that the rounds have
       pub ready-rounds : Given (Called fs ls hs ds tol ss is cs os bs j) s → Ready (Running fs ds ss is cs os bs js j) s f₁ n₁
@@ -117,7 +129,8 @@ module _ {fs ls hs : List Float} {ds : List ℕ} {tol : Float} {ss is : List ℕ
         ready-settle G = ready-under known-written (ready-under running-known (ready-afresh (ready-rounds G) t rounds-keeps))
 
         -- to the end, or infeasible as a row is settled
-        pub reduce-settled : {f₃ : Floats} {n₃ : Numbers} {z : code.Step} → Tries (Written ss is cs os bs) s f₂ n₂ f₃ n₃ z (λ M. settleFrom M (s .rows) 0) → Reduces (Called fs ls hs ds tol ss is cs os bs j) s f₃ n₃ z
+        pub reduce-settled : {f₃ : Floats} {n₃ : Numbers} {z : code.Step} → Tries (Written ss is cs os bs) s f₂ n₂ f₃ n₃ z (λ M. settleFrom M (s .rows) 0)
+            → Reduces (Called fs ls hs ds tol ss is cs os bs j) s f₃ n₃ z
         reduce-settled {f₃} {n₃} {z} u =
             record {
               does = λ M p c.

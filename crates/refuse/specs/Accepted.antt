@@ -12,8 +12,9 @@ use borrow.Author.Tests.{ltb-false}
 use Rattle.floats.specs.Num.{choose}
 use Rattle.definition.specs.Params.{params}
 use Rattle.definition.specs.Model.{Model, isMip}
-use Rattle.definition.specs.Refusal.{Lent, floatsNeeded, numbersNeeded, adjacencyNeeded, lengthsDisagree, tooLarge, startsWrong, indicesWrong, codesWrong, boundsWrong, numbersWrong, rhsesWrong, tolerancesWrong, tooShort, earliest, refusal}
-use Rattle.definition.specs.PointsKept.Accepted.{accepted-shaped}
+use Rattle.definition.specs.Refusal.{Lent, floatsNeeded, numbersNeeded, adjacencyNeeded, lengthsDisagree, tooLarge, startsWrong, indicesWrong}
+use Rattle.definition.specs.Refusal.{codesWrong, boundsWrong, numbersWrong, rhsesWrong, tolerancesWrong, tooShort, earliest, refusal}
+use Rattle.definition.specs.Accepted.{accepted-shaped}
 use Rattle.space.specs.declared.Shape.{Shape}
 use Rattle.view.specs.Call.{Call}
 use Rattle.refuse.specs.Rows.{neither, lengths-agree, sizes-small}

@@ -14,7 +14,8 @@ use borrow.Author.Tests.{ltb-false, eqb-true, not-false}
 use Rattle.floats.specs.Num.{∞f, -∞f, isFinite}
 use Rattle.tolerances.specs.Tol.{at}
 use Rattle.definition.specs.Model.{Model, from, upto, nnz, opOf}
-use Rattle.definition.specs.Refusal.{someBelow, lengthsDisagree, tooLarge, startFalls, startsWrong, indexLarge, indexFalls, rowUnordered, indicesWrong, domainWrong, cmpWrong, codesWrong, objWrong, coeffWrong, numbersWrong}
+use Rattle.definition.specs.Refusal.{someBelow, lengthsDisagree, tooLarge, startFalls, startsWrong, indexLarge, indexFalls, rowUnordered}
+use Rattle.definition.specs.Refusal.{indicesWrong, domainWrong, cmpWrong, codesWrong, objWrong, coeffWrong, numbersWrong}
 use Rattle.refuse.specs.Of.{spansOf, indicesOf, codesOf, numbersOf}
 use Rattle.refuse.specs.Laws.{none-below}
 
@@ -36,15 +37,20 @@ pub bound-is : {a b : Float} (l h : Float) → a ≡ ∞f → b ≡ ∞f → (ne
 bound-is l h ea eb = rw (ne-self l, ne-self h, ea, eb, minus)
 
 module _ {a b : Bool} where
-  pub indices-are : (obj : List Float) (starts index : List ℕ) (rhs : List Float) → a ≡ someBelow (λ k. leb (length obj) (getD index k 0)) (length index) → b ≡ someBelow (rowUnordered (spansOf starts index rhs)) (length rhs) → (a || b) ≡ indicesWrong (indicesOf obj starts index rhs)
+  pub indices-are : (obj : List Float) (starts index : List ℕ) (rhs : List Float) → a ≡ someBelow (λ k. leb (length obj) (getD index k 0)) (length index)
+      → b ≡ someBelow (rowUnordered (spansOf starts index rhs)) (length rhs) → (a || b) ≡ indicesWrong (indicesOf obj starts index rhs)
   unfolding indicesWrong indexLarge rowUnordered indexFalls nnz from upto
   indices-are obj starts index rhs ea eb = rw (ea, eb)
 
-  pub codes-are : (obj : List Float) (domain cmp : List ℕ) (rhs : List Float) (mode : ℕ) → length domain ≡ length obj → length cmp ≡ length rhs → a ≡ someBelow (λ k. ltb 2 (getD domain k 0)) (length domain) → b ≡ someBelow (λ k. ltb 2 (getD cmp k 0)) (length cmp) → (a || b || ltb 2 mode) ≡ codesWrong (codesOf obj domain cmp rhs mode)
+  pub codes-are : (obj : List Float) (domain cmp : List ℕ) (rhs : List Float) (mode : ℕ) → length domain ≡ length obj → length cmp ≡ length rhs → a ≡ someBelow
+      (λ k. ltb 2 (getD domain k 0)) (length domain) → b ≡ someBelow (λ k. ltb 2 (getD cmp k 0)) (length cmp)
+      → (a || b || ltb 2 mode) ≡ codesWrong (codesOf obj domain cmp rhs mode)
   unfolding codesWrong domainWrong cmpWrong opOf
   codes-are obj domain cmp rhs mode d c ea eb = rw (ea ∙ ap (someBelow _) d, eb ∙ ap (someBelow _) c)
 
-  pub numbers-are : (obj : List Float) (index : List ℕ) (coeff : List Float) → length coeff ≡ length index → a ≡ someBelow (λ k. not (isFinite (at obj k))) (length obj) → b ≡ someBelow (λ k. not (isFinite (at coeff k))) (length coeff) → (a || b) ≡ numbersWrong (numbersOf obj index coeff)
+  pub numbers-are : (obj : List Float) (index : List ℕ) (coeff : List Float) → length coeff ≡ length index → a ≡ someBelow
+      (λ k. not (isFinite (at obj k))) (length obj) → b ≡ someBelow (λ k. not (isFinite (at coeff k))) (length coeff)
+      → (a || b) ≡ numbersWrong (numbersOf obj index coeff)
   unfolding numbersWrong objWrong coeffWrong
   numbers-are obj index coeff c ea eb = rw (ea, eb ∙ ap (someBelow _) c)
 

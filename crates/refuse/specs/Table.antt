@@ -6,7 +6,9 @@ use mathlib.Core.List.{List, [], _∷_}
 use mathlib.Core.Option.{Option, none, some}
 use Rattle.floats.specs.Num.{choose}
 use Rattle.definition.specs.Model.{Model, from, upto, nnz, opOf, rhsOf}
-use Rattle.definition.specs.Refusal.{Lent, lengthsDisagree, tooLarge, startFalls, startsWrong, indexLarge, indexFalls, rowUnordered, indicesWrong, domainWrong, cmpWrong, codesWrong, boundWrong, boundsWrong, objWrong, coeffWrong, numbersWrong, rhsWrong, rhsesWrong, toleranceWrong, tolerancesWrong, tooShort, table, earliest, refusal}
+use Rattle.definition.specs.Refusal.{Lent, lengthsDisagree, tooLarge, startFalls, startsWrong, indexLarge, indexFalls, rowUnordered, indicesWrong}
+use Rattle.definition.specs.Refusal.{domainWrong, cmpWrong, codesWrong, boundWrong, boundsWrong, objWrong, coeffWrong, numbersWrong, rhsWrong}
+use Rattle.definition.specs.Refusal.{rhsesWrong, toleranceWrong, tolerancesWrong, tooShort, table, earliest, refusal}
 use Rattle.refuse.specs.Of.{listsOf, sizesOf, spansOf, indicesOf, codesOf, boundsOf, numbersOf, rhsesOf, tolerancesOf}
 
 -- r is the number of the earliest row that applies

@@ -53,7 +53,8 @@ pub fn refused(
     int_tol: f64,
     lent: Lent,
 ) -> Refusal
-    ensures { λ z. ⌜ refusedIs z ≡ refusal (modelOf (now (obj .entry)) (now (lower .entry)) (now (upper .entry)) (now (domain .entry)) (now (starts .entry)) (now (index .entry)) (now (coeff .entry)) (now (cmp .entry)) (now (rhs .entry)) mode feas «int_tol») (lentOf lent) ⌝ }
+    ensures { λ z. ⌜ refusedIs z ≡ refusal (modelOf (now (obj .entry)) (now (lower .entry)) (now (upper .entry)) (now (domain .entry)) (now (starts .entry))
+        (now (index .entry)) (now (coeff .entry)) (now (cmp .entry)) (now (rhs .entry)) mode feas «int_tol») (lentOf lent) ⌝ }
 {
     if rows::lengths_disagree(obj, lower, upper, domain, starts, index, coeff, cmp, rhs) {
         return Refusal::Number(1);

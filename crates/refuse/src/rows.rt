@@ -26,7 +26,8 @@ pub(crate) fn lengths_disagree(
     cmp: &[u8],
     rhs: &[f64],
 ) -> bool
-    ensures { λ z. ⌜ z ≡ definition.lengthsDisagree (listsOf (now (obj .entry)) (now (lower .entry)) (now (upper .entry)) (now (domain .entry)) (now (starts .entry)) (now (index .entry)) (now (coeff .entry)) (now (cmp .entry)) (now (rhs .entry))) ⌝ }
+    ensures { λ z. ⌜ z ≡ definition.lengthsDisagree (listsOf (now (obj .entry)) (now (lower .entry)) (now (upper .entry)) (now (domain .entry))
+        (now (starts .entry)) (now (index .entry)) (now (coeff .entry)) (now (cmp .entry)) (now (rhs .entry))) ⌝ }
 {
     let vars = obj.len();
     let rows = rhs.len();

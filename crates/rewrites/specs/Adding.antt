@@ -58,7 +58,8 @@ unfolding upto
 upto-is M r e = ap (λ (l : List ℕ). getD l (r + 1) 0) e
 
 -- the binaries from place a on, after v is stored behind them
-add-at : (bn : List ℕ) (a v : ℕ) (vs : List ℕ) (k : ℕ) → k ≡ length vs → a + k < length bn → ((j : ℕ) → j < length vs → getD bn (a + j) 0 ≡ getD vs j 0) → (j : ℕ) → j < length (vs ++ (v ∷ [])) → (j ≡ k) ⊎ (j ≢ k)
+add-at : (bn : List ℕ) (a v : ℕ) (vs : List ℕ) (k : ℕ) → k ≡ length vs → a + k < length bn → ((j : ℕ) → j < length vs → getD bn (a + j) 0 ≡ getD vs j 0)
+    → (j : ℕ) → j < length (vs ++ (v ∷ [])) → (j ≡ k) ⊎ (j ≢ k)
     → getD (set bn (a + k) v) (a + j) 0 ≡ getD (vs ++ (v ∷ [])) j 0
 add-at bn a v vs k ek l h j q (inl e) =
     ap (λ (m : ℕ). getD (set bn (a + k) v) (a + m) 0) e ∙ getD-set-same bn (a + k) v 0 l ∙ sym (getD-at vs v [] 0 j (sym ek ∙ sym e))
@@ -66,10 +67,12 @@ add-at bn a v vs k ek l h j q (inr ne) =
     let y : j < length vs = omega (arith, q, ne, ek, length-append vs (v ∷ [])) in
     getD-set-other bn (a + k) (a + j) v 0 (λ u. ne (omega (arith, u))) ∙ h j y ∙ sym (List·getD-append vs (v ∷ []) 0 j y)
 
-module _ {ss : List ℕ} {s : Shape} {f : Floats} {n : Numbers} {r : ℕ} (v : ℕ) (a b : Float) (p : r < s .rows) (R : Room ss s n r) (lb : length (n .binary) ≡ s .terms) (lc : length (n .binaries) ≡ s .rows) (lw : length (f .written) ≡ s .rows)
+module _ {ss : List ℕ} {s : Shape} {f : Floats} {n : Numbers} {r : ℕ} (v : ℕ) (a b : Float) (p : r < s .rows) (R : Room ss s n r)
+    (lb : length (n .binary) ≡ s .terms) (lc : length (n .binaries) ≡ s .rows) (lw : length (f .written) ≡ s .rows)
     {k i : ℕ} (ek : k ≡ getD (n .binaries) r 0) (ei : i ≡ getD ss r 0) {d : Float} (ed : d ≡ abs a) {n₁ n₂ : Numbers} (e₁ : n₁ ≡ put-binary (i + k) v n) (e₂ : n₂ ≡ put-binaries r (k + 1) n₁) where
   -- what stood there in the slices, and what the two sums are now
-  module _ {M : Model} {w : Work} {x : Row} (q : Spans ss M) (c : Call M s) (h : Stands M r f n w x) (old : Binding) (count : k ≡ length (old .binaries)) (shown : (j : ℕ) → j < length (old .binaries) → getD (n .binary) (from M r + j) 0 ≡ getD (old .binaries) j 0)
+  module _ {M : Model} {w : Work} {x : Row} (q : Spans ss M) (c : Call M s) (h : Stands M r f n w x) (old : Binding) (count : k ≡ length (old .binaries))
+      (shown : (j : ℕ) → j < length (old .binaries) → getD (n .binary) (from M r + j) 0 ≡ getD (old .binaries) j 0)
       (wr : Float) (ew : wr ≡ old .written) (kp : List Float) (gk : getD kp r nan ≡ old .kept) (ok : (q : ℕ) → q ≢ r → getD kp q nan ≡ getD (f .kept) q nan) where
     start : i ≡ from M r
     start = ei ∙ sym (from-is M r (q .starts))
@@ -105,7 +108,8 @@ module _ {ss : List ℕ} {s : Shape} {f : Floats} {n : Numbers} {r : ℕ} (v : �
         add-is ef (e₂ ∙ ap (put-binaries r (k + 1)) e₁)
 
   module _ (al : Alive n r) where
-    pub add-first : {f₁ f₂ : Floats} {y : Float} → length (f .kept) ≡ s .rows → k ≡ 0 → y ≡ magAt f r b → f₁ ≡ put-written r (y ⊕ d) f → f₂ ≡ put-kept r 0f f₁ → Acts (Spans ss) s f n f₂ n₂ (λ M w. withRow r (withBinary v a b (getD (f .rewritten) r nan) (rowOf w r)) w)
+    pub add-first : {f₁ f₂ : Floats} {y : Float} → length (f .kept) ≡ s .rows → k ≡ 0 → y ≡ magAt f r b → f₁ ≡ put-written r (y ⊕ d) f → f₂ ≡ put-kept r 0f f₁
+        → Acts (Spans ss) s f n f₂ n₂ (λ M w. withRow r (withBinary v a b (getD (f .rewritten) r nan) (rowOf w r)) w)
     add-first {f₁} {f₂} {y} lk z ey g₁ g₂ =
         turns-acts
         {F = λ M w x. withBinary v a b (getD (f .rewritten) r nan) x}
@@ -118,7 +122,8 @@ module _ {ss : List ℕ} {s : Shape} {f : Floats} {n : Numbers} {r : ℕ} (v : �
               (set (f .kept) r 0f) (getD-set-same (f .kept) r 0f nan (omega (arith, p, lk))) (elsewhere (f .kept) nan r 0f) (g₂ ∙ ap (put-kept r 0f) g₁));
         })
 
-    pub add-more : {f₁ : Floats} {y : Float} → (k ≡ 0 → ⊥) → y ≡ getD (f .written) r nan → f₁ ≡ put-written r (y ⊕ d) f → Acts (Spans ss) s f n f₁ n₂ (λ M w. withRow r (withBinary v a b (getD (f .rewritten) r nan) (rowOf w r)) w)
+    pub add-more : {f₁ : Floats} {y : Float} → (k ≡ 0 → ⊥) → y ≡ getD (f .written) r nan → f₁ ≡ put-written r (y ⊕ d) f → Acts (Spans ss) s f n f₁ n₂
+        (λ M w. withRow r (withBinary v a b (getD (f .rewritten) r nan) (rowOf w r)) w)
     add-more {f₁} {y} z ey g₁ =
         turns-acts
         {F = λ M w x. withBinary v a b (getD (f .rewritten) r nan) x}

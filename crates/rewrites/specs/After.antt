@@ -92,7 +92,8 @@ module _ {ss : List ℕ} {s : Shape} {f : Floats} {n : Numbers} {r i v : ℕ} (D
             place = i;
             live = D .live;
             var = sym (D .var);
-            nonzero = ap (λ (g : Floats). eq (getD (g .coeffs) (getD ss r 0 + i) nan) 0f) e ∙ ap (λ (u : Float). eq u 0f) (getD-set-same (f .coeffs) (getD ss r 0 + i) y nan (omega (arith, l, lc))) ∙ z;
+            nonzero = ap (λ (g : Floats). eq (getD (g .coeffs) (getD ss r 0 + i) nan) 0f) e ∙ ap
+                (λ (u : Float). eq u 0f) (getD-set-same (f .coeffs) (getD ss r 0 + i) y nan (omega (arith, l, lc))) ∙ z;
           }
 
 -- ---- reboundRow
@@ -115,15 +116,21 @@ unfolding growth setCoeff rhsMag
 growth-set M i v na b x d = refl
 
 module _ (M : Model) (w : Work) (x : Row) (i v : ℕ) (a na bp : Float) {b grown : Float} (eg : growth M b (setCoeff i v na x) (rewriteBinding M w (setCoeff i v na x) v a b bp) ≡ grown) where
-  le-row : (b₁ : Float) → b ≡ b₁ → withRange (x .lo) (bp ⊕ grown) (bothOf i v a na b bp M w x) ≡ withBinding (some (rewriteBinding M w (setCoeff i v na x) v a b₁ bp)) (withRange (x .lo) (bp ⊕ growth M b₁ x (rewriteBinding M w (setCoeff i v na x) v a b₁ bp)) (setCoeff i v na x))
+  le-row : (b₁ : Float) → b ≡ b₁ → withRange (x .lo) (bp ⊕ grown) (bothOf i v a na b bp M w x)
+      ≡ withBinding (some (rewriteBinding M w (setCoeff i v na x) v a b₁ bp))
+      (withRange (x .lo) (bp ⊕ growth M b₁ x (rewriteBinding M w (setCoeff i v na x) v a b₁ bp)) (setCoeff i v na x))
   le-row b₁ e =
       ap (λ (u : Float). withRange (x .lo) (bp ⊕ u) (bothOf i v a na b bp M w x)) (sym eg ∙ growth-set M i v na b x (rewriteBinding M w (setCoeff i v na x) v a b bp))
-      ∙ ap (λ (u : Float). withBinding (some (rewriteBinding M w (setCoeff i v na x) v a u bp)) (withRange (x .lo) (bp ⊕ growth M u x (rewriteBinding M w (setCoeff i v na x) v a u bp)) (setCoeff i v na x))) e
+      ∙ ap (λ (u : Float). withBinding (some (rewriteBinding M w (setCoeff i v na x) v a u bp))
+      (withRange (x .lo) (bp ⊕ growth M u x (rewriteBinding M w (setCoeff i v na x) v a u bp)) (setCoeff i v na x))) e
 
-  ge-row : (b₁ : Float) → b ≡ b₁ → withRange (bp ⊖ grown) (x .hi) (bothOf i v a na b bp M w x) ≡ withBinding (some (rewriteBinding M w (setCoeff i v na x) v a b₁ bp)) (withRange (bp ⊖ growth M b₁ x (rewriteBinding M w (setCoeff i v na x) v a b₁ bp)) (x .hi) (setCoeff i v na x))
+  ge-row : (b₁ : Float) → b ≡ b₁ → withRange (bp ⊖ grown) (x .hi) (bothOf i v a na b bp M w x)
+      ≡ withBinding (some (rewriteBinding M w (setCoeff i v na x) v a b₁ bp)) (withRange (bp ⊖ growth M b₁ x (rewriteBinding M w (setCoeff i v na x) v a b₁ bp))
+      (x .hi) (setCoeff i v na x))
   ge-row b₁ e =
       ap (λ (u : Float). withRange (bp ⊖ u) (x .hi) (bothOf i v a na b bp M w x)) (sym eg ∙ growth-set M i v na b x (rewriteBinding M w (setCoeff i v na x) v a b bp))
-      ∙ ap (λ (u : Float). withBinding (some (rewriteBinding M w (setCoeff i v na x) v a u bp)) (withRange (bp ⊖ growth M u x (rewriteBinding M w (setCoeff i v na x) v a u bp)) (x .hi) (setCoeff i v na x))) e
+      ∙ ap (λ (u : Float). withBinding (some (rewriteBinding M w (setCoeff i v na x) v a u bp))
+      (withRange (bp ⊖ growth M u x (rewriteBinding M w (setCoeff i v na x) v a u bp)) (x .hi) (setCoeff i v na x))) e
 
   pub le-is : b ≡ x .hi → withRange (bothOf i v a na b bp M w x .lo) (bp ⊕ grown) (bothOf i v a na b bp M w x) ≡ reboundRow M leForm w x i v a na bp
   unfolding reboundRow setCoeff
@@ -138,7 +145,8 @@ pub same-acts : {P : Model → Type 0} {s : Shape} {f : Floats} {n : Numbers} {r
 same-acts p al = turns-acts {F = λ M w x. x} p al (record { does = λ M w x q c h. one-none h })
 
 -- f₁ has the coefficient, f₂ and n₂ the binding, f₃ the bound
-module _ {ss : List ℕ} {s : Shape} {f : Floats} {n : Numbers} {r i v : ℕ} (a na b bp : Float) (D : Placed ss s n r i v) (z : eq na 0f ≡ false) (R : Ready (Spans ss) s f n) (lc : length (f .coeffs) ≡ s .terms) {f₁ f₂ : Floats} {n₂ : Numbers} (e₁ : f₁ ≡ put-coeffs (getD ss r 0 + i) na f)
+module _ {ss : List ℕ} {s : Shape} {f : Floats} {n : Numbers} {r i v : ℕ} (a na b bp : Float) (D : Placed ss s n r i v) (z : eq na 0f ≡ false)
+    (R : Ready (Spans ss) s f n) (lc : length (f .coeffs) ≡ s .terms) {f₁ f₂ : Floats} {n₂ : Numbers} (e₁ : f₁ ≡ put-coeffs (getD ss r 0 + i) na f)
     {grown : Float} (A : Acts (Spans ss) s f₁ n f₂ n₂ (λ M w. withRow r (rebound r v a b bp M w) w)) (T : Reads (Spans ss) s f₁ n grown (reboundGrowth r v a b bp)) where
   both-acts : Acts (Spans ss) s f n f₂ n₂ (λ M w. withRow r (bothOf i v a na b bp M w (rowOf w r)) w)
   both-acts =
@@ -165,16 +173,20 @@ module _ {ss : List ℕ} {s : Shape} {f : Floats} {n : Numbers} {r i v : ℕ} (a
         inv = λ M o k w q c h j. both-inv M w (term-in D c h) (term-var D q c h) (row-inv c h (D .row) (D .alive) j);
       }
 
-  pub le-acts : {f₃ : Floats} → length (f₂ .hi) ≡ s .rows → b ≡ getD (f₁ .hi) r nan → f₃ ≡ put-hi r (bp ⊕ grown) f₂ → Acts (Spans ss) s f n f₃ n₂ (λ M w. withRow r (reboundRow M leForm w (rowOf w r) i v a na bp) w)
+  pub le-acts : {f₃ : Floats} → length (f₂ .hi) ≡ s .rows → b ≡ getD (f₁ .hi) r nan → f₃ ≡ put-hi r (bp ⊕ grown) f₂ → Acts (Spans ss) s f n f₃ n₂
+      (λ M w. withRow r (reboundRow M leForm w (rowOf w r) i v a na bp) w)
   le-acts l eb e₃ =
       acts-again (D .row) both-acts both-stays (λ M w x. withRange (x .lo) (bp ⊕ grown) x)
-      (turns-acts {F = λ M w x. withRange (x .lo) (bp ⊕ grown) x} (D .row) (alive-stays (D .row) both-acts both-stays R) (record { does = λ M w x q c h. hi-one c (omega (arith, D .row, c .rows)) h (bp ⊕ grown) l e₃ }))
+      (turns-acts {F = λ M w x. withRange (x .lo) (bp ⊕ grown) x} (D .row) (alive-stays (D .row) both-acts both-stays R)
+      (record { does = λ M w x q c h. hi-one c (omega (arith, D .row, c .rows)) h (bp ⊕ grown) l e₃ }))
       (λ M o k w q c h j. le-is M w (rowOf w r) i v a na bp (both-growth .reads M o k w q c h j) (eb ∙ ap (λ (g : Floats). getD (g .hi) r nan) e₁ ∙ row-shown c h (D .row) (D .alive) .hi))
 
-  pub ge-acts : {f₃ : Floats} → length (f₂ .lo) ≡ s .rows → b ≡ getD (f₁ .lo) r nan → f₃ ≡ put-lo r (bp ⊖ grown) f₂ → Acts (Spans ss) s f n f₃ n₂ (λ M w. withRow r (reboundRow M geForm w (rowOf w r) i v a na bp) w)
+  pub ge-acts : {f₃ : Floats} → length (f₂ .lo) ≡ s .rows → b ≡ getD (f₁ .lo) r nan → f₃ ≡ put-lo r (bp ⊖ grown) f₂ → Acts (Spans ss) s f n f₃ n₂
+      (λ M w. withRow r (reboundRow M geForm w (rowOf w r) i v a na bp) w)
   ge-acts l eb e₃ =
       acts-again (D .row) both-acts both-stays (λ M w x. withRange (bp ⊖ grown) (x .hi) x)
-      (turns-acts {F = λ M w x. withRange (bp ⊖ grown) (x .hi) x} (D .row) (alive-stays (D .row) both-acts both-stays R) (record { does = λ M w x q c h. lo-one c (omega (arith, D .row, c .rows)) h (bp ⊖ grown) l e₃ }))
+      (turns-acts {F = λ M w x. withRange (bp ⊖ grown) (x .hi) x} (D .row) (alive-stays (D .row) both-acts both-stays R)
+      (record { does = λ M w x q c h. lo-one c (omega (arith, D .row, c .rows)) h (bp ⊖ grown) l e₃ }))
       (λ M o k w q c h j. ge-is M w (rowOf w r) i v a na bp (both-growth .reads M o k w q c h j) (eb ∙ ap (λ (g : Floats). getD (g .lo) r nan) e₁ ∙ row-shown c h (D .row) (D .alive) .lo))
 
 -- ---- by the form, and by the rewrite
@@ -234,7 +246,8 @@ pub bound-nonzero : {x : rewrites.Rewrite} {na bp d : Float} → x ≡ CoeffBoun
 bound-nonzero e z = nonzero-of (subst (λ (y : rewrites.Rewrite). Nonzero (rewriteIs y)) e z)
 
 -- ---- what rowAfter keeps
-pub row-after-keeps : {M : Model} {k : ℕ} {s : Shape} {r : ℕ} (g : Form) (i : ℕ) (x : Rewrite) (w : Work) → Call M s → r < s .rows → rowOf w r .alive ≡ true → i < length (rowOf w r .terms) → Nonzero x → Inv M k w
+pub row-after-keeps : {M : Model} {k : ℕ} {s : Shape} {r : ℕ} (g : Form) (i : ℕ) (x : Rewrite) (w : Work) → Call M s → r < s .rows → rowOf w r .alive ≡ true
+    → i < length (rowOf w r .terms) → Nonzero x → Inv M k w
     → Inv M k (withRow r (rowAfter M g w (rowOf w r) i (getD (rowOf w r .terms) i noTerm) x) w)
 row-after-keeps {r = r} g i x w c p al l z j = inv-row r _ w j (λ _. after-inv g w (rowOf w r) i x l z (j .rows r (omega (arith, p, c .rows)) al))
 

@@ -85,5 +85,6 @@ pub binaries-fit : {M : Model} {r : ℕ} {row : Row} {vs : List ℕ} → Binarie
 binaries-fit {row = row} b = let z = once-fits (binaries-once b) (binaries-among b) in omega (arith, z, length-append (row .terms) (row .folded))
 
 -- and one more: v is none of them, and has a coefficient that is not zero
-pub binary-more-fits : {M : Model} {r : ℕ} {row : Row} {vs : List ℕ} (v : ℕ) → BinariesIn M r row vs → has v vs ≡ false → hasNonzero v (row .terms ++ row .folded) ≡ true → suc (length vs) ≤ length (row .terms) + length (row .folded)
+pub binary-more-fits : {M : Model} {r : ℕ} {row : Row} {vs : List ℕ} (v : ℕ) → BinariesIn M r row vs → has v vs ≡ false
+    → hasNonzero v (row .terms ++ row .folded) ≡ true → suc (length vs) ≤ length (row .terms) + length (row .folded)
 binary-more-fits {vs = vs} v b h e = let z = binaries-fit (binaries-snoc v b h e) in omega (arith, z, length-append vs (v ∷ []))

@@ -124,7 +124,8 @@ module _ (M : Model) (w : Work) (x : Row) (v : ℕ) (a b bp : Float) where
     rebuilt-same : (bins : List ℕ) (wr kept : Float) → rebuilt M w₁ bp x₁ bins wr kept ≡ rebuilt M w bp x bins wr kept
     rebuilt-same bins wr kept =
         let y = x₁ .binding in
-        let g : rhsMag x₁ bp ⊕ sumCoeffs x₁ 0f bins ≡ rhsMag x bp ⊕ sumCoeffs x 0f bins = ap (λ (m : Float). m ⊕ sumCoeffs x₁ 0f bins) (mag-bound y x bp) ∙ ap (λ (m : Float). rhsMag x bp ⊕ m) (sum-bound y x 0f bins) in
+        let g : rhsMag x₁ bp ⊕ sumCoeffs x₁ 0f bins ≡ rhsMag x bp ⊕ sumCoeffs x 0f bins = ap (λ (m : Float). m ⊕ sumCoeffs x₁ 0f bins) (mag-bound y x bp) ∙ ap
+        (λ (m : Float). rhsMag x bp ⊕ m) (sum-bound y x 0f bins) in
         let k : fixedBesides w₁ x₁ bins ≡ fixedBesides w x bins = besides-row r x₁ w x₁ bins ∙ besides-bound y w x bins in
         λ m. record { binaries = bins; written = wr; rewritten = g m; kept = maxf (rewriteRoom M wr (g m) (k m)) kept }
 
@@ -182,7 +183,8 @@ rebound r v a b bp M w = withBinding (some (rewriteBinding M w (rowOf w r) v a b
 abbrev pub reboundGrowth : ℕ → ℕ → Float → Float → Float → Model → Work → Float
 reboundGrowth r v a b bp M w = growth M b (rowOf w r) (rewriteBinding M w (rowOf w r) v a b bp)
 
-module _ {ss : List ℕ} {s : Shape} {f : Floats} {n : Numbers} {r : ℕ} (v : ℕ) (p : r < s .rows) (al : Alive n r) {z : Bool} (t : TellsN (Spans ss) s r n z (λ M w x. has v (binariesOf (x .binding)))) where
+module _ {ss : List ℕ} {s : Shape} {f : Floats} {n : Numbers} {r : ℕ} (v : ℕ) (p : r < s .rows) (al : Alive n r) {z : Bool}
+    (t : TellsN (Spans ss) s r n z (λ M w x. has v (binariesOf (x .binding)))) where
   has-is : {M : Model} {o : List ℕ} {w : Work} → Spans ss M → Call M s → Shows M f n o w → has v (binariesOf (rowOf w r .binding)) ≡ z
   has-is {M} {o} {w} q c h = t .tells f M w (rowOf w r) q c (stands-in c p al h)
 

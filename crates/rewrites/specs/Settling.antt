@@ -41,7 +41,8 @@ mag-is x b e = ap (λ (z : Float). abs (b ⊕ z)) (sym e)
 abbrev pub rewrittenMag : ℕ → Float → Model → Work → Float
 rewrittenMag r bp M w = rhsMag (rowOf w r) bp ⊕ sumAll r M w
 
-pub rewritten-reads : {P : Model → Type 0} {s : Shape} {f : Floats} {n : Numbers} {r : ℕ} {y z : Float} (bp : Float) → r < s .rows → Alive n r → y ≡ magAt f r bp → Reads P s f n z (sumAll r) → Reads P s f n (y ⊕ z) (rewrittenMag r bp)
+pub rewritten-reads : {P : Model → Type 0} {s : Shape} {f : Floats} {n : Numbers} {r : ℕ} {y z : Float} (bp : Float) → r < s .rows → Alive n r
+    → y ≡ magAt f r bp → Reads P s f n z (sumAll r) → Reads P s f n (y ⊕ z) (rewrittenMag r bp)
 rewritten-reads {r = r} {y = y} bp p a ey t =
     record {
       reads = λ M o k w q c h i.
@@ -64,17 +65,20 @@ module _ {s : Shape} {f : Floats} {n : Numbers} {r : ℕ} (p : r < s .rows) (a :
   bound-at : {M : Model} {o : List ℕ} {w : Work} → Call M s → Shows M f n o w → Bound M (partsOf f n) r (rowOf w r .binding)
   bound-at c h = bound-of (row-shown c h p a .binding) (λ e. omega (arith, e, l))
 
-  pub kept-reads : {ss : List ℕ} (re : Float) {fx wr old room z : Float} → Tells (Spans ss) s r f n fx (λ M w x. fixedBesides w x (binariesOf (x .binding))) → wr ≡ getD (f .written) r nan → old ≡ getD (f .kept) r nan
+  pub kept-reads : {ss : List ℕ} (re : Float) {fx wr old room z : Float} → Tells (Spans ss) s r f n fx (λ M w x. fixedBesides w x (binariesOf (x .binding)))
+      → wr ≡ getD (f .written) r nan → old ≡ getD (f .kept) r nan
       → ByTol (s .feas) room (λ M. rewriteRoom M wr re fx) → z ≡ maxf room old → Reads (Spans ss) s f n z (keptAfter r re)
   kept-reads re {fx} {wr} {old} t ew eo er ez =
       record {
         reads = λ M o k w q c h i.
             let y = bound-at c h in
             let b = y .binding in
-            let ef : fixedBesides w (rowOf w r) (b .binaries) ≡ fx = ap (λ (m : Option Binding). fixedBesides w (rowOf w r) (binariesOf m)) (sym (y .is)) ∙ t .tells M w (rowOf w r) q c (stands-in c p a h) in
+            let ef : fixedBesides w (rowOf w r) (b .binaries) ≡ fx = ap (λ (m : Option Binding). fixedBesides w (rowOf w r) (binariesOf m)) (sym (y .is))
+            ∙ t .tells M w (rowOf w r) q c (stands-in c p a h) in
             let e₁ : b .written ≡ wr = sym (y .shown .written) ∙ sym ew in
             let e₂ : b .kept ≡ old = sym (y .shown .kept) ∙ sym eo in
-            ap (keptBy M w (rowOf w r) re) (y .is) ∙ ap (λ (m : Float). maxf (rewriteRoom M m re (fixedBesides w (rowOf w r) (b .binaries))) (b .kept)) e₁ ∙ ap (λ (m : Float). maxf (rewriteRoom M wr re m) (b .kept)) ef
+            ap (keptBy M w (rowOf w r) re) (y .is) ∙ ap (λ (m : Float). maxf (rewriteRoom M m re (fixedBesides w (rowOf w r) (b .binaries))) (b .kept)) e₁ ∙ ap
+            (λ (m : Float). maxf (rewriteRoom M wr re m) (b .kept)) ef
             ∙ ap (λ (m : Float). maxf (rewriteRoom M wr re fx) m) e₂ ∙ ap (λ (m : Float). maxf m old) (sym (er .of M (sym (c .feas)))) ∙ sym ez;
       }
 
@@ -106,7 +110,8 @@ settledGrowth M w bp x = keptOf (settledBy M w bp x (x .binding)) ⊖ keptOf (x 
 abbrev sums : Binding → Float → Float → Binding
 sums b re kept = record { binaries = b .binaries; written = b .written; rewritten = re; kept = kept }
 
-module _ {ss : List ℕ} {s : Shape} {f : Floats} {n : Numbers} {r : ℕ} (bp : Float) (p : r < s .rows) (a : Alive n r) (l : 0 < getD (n .binaries) r 0) {re kept : Float} (t : Reads (Spans ss) s f n re (rewrittenMag r bp)) (u : Reads (Spans ss) s f n kept (keptAfter r re)) where
+module _ {ss : List ℕ} {s : Shape} {f : Floats} {n : Numbers} {r : ℕ} (bp : Float) (p : r < s .rows) (a : Alive n r) (l : 0 < getD (n .binaries) r 0)
+    {re kept : Float} (t : Reads (Spans ss) s f n re (rewrittenMag r bp)) (u : Reads (Spans ss) s f n kept (keptAfter r re)) where
   module _ {M : Model} {o : List ℕ} {k : ℕ} {w : Work} (q : Spans ss M) (c : Call M s) (h : Shows M f n o w) (i : Inv M k w) where
     abbrev x : Row
     x = rowOf w r
@@ -129,7 +134,8 @@ module _ {ss : List ℕ} {s : Shape} {f : Floats} {n : Numbers} {r : ℕ} (bp : 
     settled-is : settledBy M w bp x (x .binding) ≡ some (sums b re kept)
     settled-is = ap (settledBy M w bp x) (here .is) ∙ ap (λ (m : Binding). some m) with-is
 
-  pub store-acts : {f₁ f₂ : Floats} → length (f .rewritten) ≡ s .rows → length (f .kept) ≡ s .rows → f₁ ≡ put-rewritten r re f → f₂ ≡ put-kept r kept f₁ → Acts (Spans ss) s f n f₂ n (λ M w. withRow r (settled M w bp (rowOf w r)) w)
+  pub store-acts : {f₁ f₂ : Floats} → length (f .rewritten) ≡ s .rows → length (f .kept) ≡ s .rows → f₁ ≡ put-rewritten r re f → f₂ ≡ put-kept r kept f₁
+      → Acts (Spans ss) s f n f₂ n (λ M w. withRow r (settled M w bp (rowOf w r)) w)
   store-acts {f₁} {f₂} lr lk e₁ e₂ =
       record {
         does = λ M o k w q c h i.

@@ -25,9 +25,20 @@ pub record Stays (P : Model → Type 0) (s : Shape) (f : Floats) (n : Numbers) (
 -- the row that was stored last is the row
 pub row-again : (r : ℕ) (x y : Row) (w : Work) → withRow r y (withRow r x w) ≡ withRow r y w
 row-again r x y w =
-    ap (λ (l : List Row). record { wlo = w .wlo; whi = w .whi; elo = w .elo; ehi = w .ehi; rows = l; dirty = w .dirty; coeffDirty = w .coeffDirty; queue = w .queue; counts = w .counts }) (set-set (w .rows) r x y)
+    ap (λ (l : List Row). record {
+      wlo = w .wlo;
+      whi = w .whi;
+      elo = w .elo;
+      ehi = w .ehi;
+      rows = l;
+      dirty = w .dirty;
+      coeffDirty = w .coeffDirty;
+      queue = w .queue;
+      counts = w .counts;
+    }) (set-set (w .rows) r x y)
 
-module _ {P : Model → Type 0} {s : Shape} {f f₁ : Floats} {n n₁ : Numbers} {r : ℕ} {F : Model → Work → Row} (p : r < s .rows) (A : Acts P s f n f₁ n₁ (λ M w. withRow r (F M w) w)) (S : Stays P s f n r F) where
+module _ {P : Model → Type 0} {s : Shape} {f f₁ : Floats} {n n₁ : Numbers} {r : ℕ} {F : Model → Work → Row} (p : r < s .rows)
+    (A : Acts P s f n f₁ n₁ (λ M w. withRow r (F M w) w)) (S : Stays P s f n r F) where
   row-is : {M : Model} {k : ℕ} (w : Work) → Call M s → Inv M k w → rowOf (withRow r (F M w) w) r ≡ F M w
   row-is {M} w c i = row-now r (F M w) w (omega (arith, p, c .rows, i .rowses))
 
@@ -51,11 +62,13 @@ module _ {P : Model → Type 0} {s : Shape} {f f₁ : Floats} {n n₁ : Numbers}
 
   pub shown-stays : (R : Ready P s f n) → RowShown (R .model) (partsOf f₁ n₁) r (F (R .model) (R .work))
   shown-stays R =
-      subst (RowShown (R .model) (partsOf f₁ n₁) r) (row-is (R .work) (R .call) (R .inv)) (row-shown (R .call) (A .does (R .model) (R .other) (R .left) (R .work) (R .known) (R .call) (R .shows) (R .inv)) p (alive-stays R))
+      subst (RowShown (R .model) (partsOf f₁ n₁) r) (row-is (R .work) (R .call) (R .inv))
+      (row-shown (R .call) (A .does (R .model) (R .other) (R .left) (R .work) (R .known) (R .call) (R .shows) (R .inv)) p (alive-stays R))
 
   -- G of the row that F left is H of the state before
   module _ {f₂ : Floats} {n₂ : Numbers} (G : Model → Work → Row → Row) {H : Model → Work → Row} where
-    pub acts-again : Acts P s f₁ n₁ f₂ n₂ (λ M w. withRow r (G M w (rowOf w r)) w) → ((M : Model) (o : List ℕ) (k : ℕ) (w : Work) → P M → Call M s → Shows M f n o w → Inv M k w → G M (withRow r (F M w) w) (F M w) ≡ H M w)
+    pub acts-again : Acts P s f₁ n₁ f₂ n₂ (λ M w. withRow r (G M w (rowOf w r)) w)
+        → ((M : Model) (o : List ℕ) (k : ℕ) (w : Work) → P M → Call M s → Shows M f n o w → Inv M k w → G M (withRow r (F M w) w) (F M w) ≡ H M w)
         → Acts P s f n f₂ n₂ (λ M w. withRow r (H M w) w)
     acts-again B e =
         record {
@@ -66,7 +79,8 @@ module _ {P : Model → Type 0} {s : Shape} {f f₁ : Floats} {n n₁ : Numbers}
               subst (λ (y : Work). Shows M f₂ n₂ o y) (ap (λ (y : Row). withRow r y u) g ∙ row-again r (F M w) (H M w) w) (B .does M o k u q c (A .does M o k w q c h i) j);
         }
 
-  pub reads-again : {B : Type 0} {z : B} (G : Model → Work → Row → B) {H : Model → Work → B} → Reads P s f₁ n₁ z (λ M w. G M w (rowOf w r)) → ((M : Model) (o : List ℕ) (k : ℕ) (w : Work) → P M → Call M s → Shows M f n o w → Inv M k w → G M (withRow r (F M w) w) (F M w) ≡ H M w)
+  pub reads-again : {B : Type 0} {z : B} (G : Model → Work → Row → B) {H : Model → Work → B} → Reads P s f₁ n₁ z (λ M w. G M w (rowOf w r))
+      → ((M : Model) (o : List ℕ) (k : ℕ) (w : Work) → P M → Call M s → Shows M f n o w → Inv M k w → G M (withRow r (F M w) w) (F M w) ≡ H M w)
       → Reads P s f n z H
   reads-again G t e =
       record {

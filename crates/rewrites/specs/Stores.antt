@@ -110,7 +110,21 @@ module _ {M : Model} {s : Shape} {r : ℕ} {f : Floats} {n : Numbers} {w : Work}
 
 -- ---- the blocks of the bindings
 abbrev pub bindF : List Float → List Float → List Float → Floats → Floats
-bindF wr re kp f = record { wlo = f .wlo; whi = f .whi; elo = f .elo; ehi = f .ehi; lo = f .lo; hi = f .hi; foldScale = f .foldScale; shift = f .shift; written = wr; rewritten = re; kept = kp; bound = f .bound; coeffs = f .coeffs }
+bindF wr re kp f = record {
+  wlo = f .wlo;
+  whi = f .whi;
+  elo = f .elo;
+  ehi = f .ehi;
+  lo = f .lo;
+  hi = f .hi;
+  foldScale = f .foldScale;
+  shift = f .shift;
+  written = wr;
+  rewritten = re;
+  kept = kp;
+  bound = f .bound;
+  coeffs = f .coeffs;
+}
 
 abbrev pub bindN : List ℕ → List ℕ → Numbers → Numbers
 bindN bs bn n =

@@ -1,4 +1,5 @@
-// The row after a rewrite of one coefficient: the coefficient first, then the binding, then the bound.
+// `tighten_binary_coeffs` of src/presolve/work.rs of microlp 0.7.0, changed: the row after a rewrite of
+// one coefficient: the coefficient first, then the binding, then the bound.
 ghost use mathlib.Core.Path.{_≡_};
 ghost use mathlib.Core.Bool.{false};
 ghost use Prim.Native.Nat.{_+_, _≤_, _<_};
@@ -46,7 +47,8 @@ fn rebound_le(
 )
     requires { ⌜ HoldsF s (now w) × HoldsN s (now m) × Placed (now starts) s (numbersOf s (now m)) r i v × (eq na 0f ≡ false) ⌝ }
     requires { ⌜ Ready (Spans (now starts)) s (floatsOf s (now w)) (numbersOf s (now m)) ⌝ }
-    ensures { λ _. ⌜ Acts (Spans (now (starts .entry))) s (floatsOf s (now (w .entry))) (numbersOf s (now (m .entry))) (floatsOf s (now (w .exit))) (numbersOf s (now (m .exit))) (λ M u. withRow r (reboundRow M defs.leForm u (rowOf u r) i v a na bp) u) ⌝ }
+    ensures { λ _. ⌜ Acts (Spans (now (starts .entry))) s (floatsOf s (now (w .entry))) (numbersOf s (now (m .entry))) (floatsOf s (now (w .exit)))
+        (numbersOf s (now (m .exit))) (λ M u. withRow r (reboundRow M defs.leForm u (rowOf u r) i v a na bp) u) ⌝ }
 {
     set_coeff(starts, w, s, r, i, na);
     let b = space::get_hi(w, s, r);
@@ -54,7 +56,7 @@ fn rebound_le(
     space::put_hi(w, s, r, bp + grown);
 }
 
-// Of a Ge row.
+// = reboundRow, of a Ge row
 fn rebound_ge(
     starts: &[usize],
     w: &mut [f64],
@@ -69,7 +71,8 @@ fn rebound_ge(
 )
     requires { ⌜ HoldsF s (now w) × HoldsN s (now m) × Placed (now starts) s (numbersOf s (now m)) r i v × (eq na 0f ≡ false) ⌝ }
     requires { ⌜ Ready (Spans (now starts)) s (floatsOf s (now w)) (numbersOf s (now m)) ⌝ }
-    ensures { λ _. ⌜ Acts (Spans (now (starts .entry))) s (floatsOf s (now (w .entry))) (numbersOf s (now (m .entry))) (floatsOf s (now (w .exit))) (numbersOf s (now (m .exit))) (λ M u. withRow r (reboundRow M defs.geForm u (rowOf u r) i v a na bp) u) ⌝ }
+    ensures { λ _. ⌜ Acts (Spans (now (starts .entry))) s (floatsOf s (now (w .entry))) (numbersOf s (now (m .entry))) (floatsOf s (now (w .exit)))
+        (numbersOf s (now (m .exit))) (λ M u. withRow r (reboundRow M defs.geForm u (rowOf u r) i v a na bp) u) ⌝ }
 {
     set_coeff(starts, w, s, r, i, na);
     let b = space::get_lo(w, s, r);
@@ -93,7 +96,8 @@ fn rebound(
 )
     requires { ⌜ HoldsF s (now w) × HoldsN s (now m) × Placed (now starts) s (numbersOf s (now m)) r i v × (eq na 0f ≡ false) ⌝ }
     requires { ⌜ Ready (Spans (now starts)) s (floatsOf s (now w)) (numbersOf s (now m)) ⌝ }
-    ensures { λ _. ⌜ Acts (Spans (now (starts .entry))) s (floatsOf s (now (w .entry))) (numbersOf s (now (m .entry))) (floatsOf s (now (w .exit))) (numbersOf s (now (m .exit))) (λ M u. withRow r (reboundRow M (formIs f) u (rowOf u r) i v a na bp) u) ⌝ }
+    ensures { λ _. ⌜ Acts (Spans (now (starts .entry))) s (floatsOf s (now (w .entry))) (numbersOf s (now (m .entry))) (floatsOf s (now (w .exit)))
+        (numbersOf s (now (m .exit))) (λ M u. withRow r (reboundRow M (formIs f) u (rowOf u r) i v a na bp) u) ⌝ }
 {
     match f {
         Form::Le => {
@@ -126,7 +130,8 @@ pub fn row_after(
     requires { ⌜ (r < s .rows) × HoldsF s (now w) × HoldsN s (now m) × Alive (numbersOf s (now m)) r × (i < getD (numbersOf s (now m) .len) r 0) × Nonzero (rewriteIs x) ⌝ }
     requires { ⌜ (v ≡ getD (numbersOf s (now m) .vars) (getD (now starts) r 0 + i) 0) × (a ≡ getD (floatsOf s (now w) .coeffs) (getD (now starts) r 0 + i) nan) ⌝ }
     requires { ⌜ Ready (Spans (now starts)) s (floatsOf s (now w)) (numbersOf s (now m)) ⌝ }
-    ensures { λ _. ⌜ Acts (Spans (now (starts .entry))) s (floatsOf s (now (w .entry))) (numbersOf s (now (m .entry))) (floatsOf s (now (w .exit))) (numbersOf s (now (m .exit))) (λ M u. withRow r (rowAfter M (formIs f) u (rowOf u r) i (term v a) (rewriteIs x)) u) ⌝ }
+    ensures { λ _. ⌜ Acts (Spans (now (starts .entry))) s (floatsOf s (now (w .entry))) (numbersOf s (now (m .entry))) (floatsOf s (now (w .exit)))
+        (numbersOf s (now (m .exit))) (λ M u. withRow r (rowAfter M (formIs f) u (rowOf u r) i (term v a) (rewriteIs x)) u) ⌝ }
 {
     match x {
         Rewrite::Keeps => {

@@ -1,4 +1,5 @@
-// `rewrite_binding`: the binding branch of a row after a rewrite that moves its bound.
+// `rewrite_binding` of src/presolve/work.rs of microlp 0.7.0, changed: the binding branch of a row
+// after a rewrite that moves its bound.
 ghost use mathlib.Core.Path.{_≡_};
 ghost use Prim.Native.Nat.{_<_};
 ghost use lib.ListN.{getD};
@@ -51,7 +52,8 @@ fn kept_after(starts: &[usize], w: &[f64], m: &[usize], s: Shape, r: usize, re: 
 fn store_binding(starts: &[usize], w: &mut [f64], m: &[usize], s: Shape, r: usize, bp: f64) -> f64
     requires { ⌜ (r < s .rows) × HoldsF s (now w) × HoldsN s (now m) × Alive (numbersOf s (now m)) r × (0 < getD (numbersOf s (now m) .binaries) r 0) ⌝ }
     requires { ⌜ Ready (Spans (now starts)) s (floatsOf s (now w)) (numbersOf s (now m)) ⌝ }
-    ensures { λ _. ⌜ Acts (Spans (now (starts .entry))) s (floatsOf s (now (w .entry))) (numbersOf s (now (m .entry))) (floatsOf s (now (w .exit))) (numbersOf s (now (m .entry))) (λ M u. withRow r (settled M u bp (rowOf u r)) u) ⌝ }
+    ensures { λ _. ⌜ Acts (Spans (now (starts .entry))) s (floatsOf s (now (w .entry))) (numbersOf s (now (m .entry))) (floatsOf s (now (w .exit)))
+        (numbersOf s (now (m .entry))) (λ M u. withRow r (settled M u bp (rowOf u r)) u) ⌝ }
     ensures { λ z. ⌜ Reads (Spans (now (starts .entry))) s (floatsOf s (now (w .entry))) (numbersOf s (now (m .entry))) z (λ M u. settledGrowth M u bp (rowOf u r)) ⌝ }
 {
     let re = rewritten_mag(starts, w, m, s, r, bp);
@@ -76,7 +78,8 @@ fn add_binary(
 )
     requires { ⌜ (r < s .rows) × HoldsF s (now w) × HoldsN s (now m) × Alive (numbersOf s (now m)) r ⌝ }
     requires { ⌜ Room (now starts) s (numbersOf s (now m)) r ⌝ }
-    ensures { λ _. ⌜ Acts (Spans (now (starts .entry))) s (floatsOf s (now (w .entry))) (numbersOf s (now (m .entry))) (floatsOf s (now (w .exit))) (numbersOf s (now (m .exit))) (λ M u. withRow r (withBinary v a b (getD (floatsOf s (now (w .entry)) .rewritten) r nan) (rowOf u r)) u) ⌝ }
+    ensures { λ _. ⌜ Acts (Spans (now (starts .entry))) s (floatsOf s (now (w .entry))) (numbersOf s (now (m .entry))) (floatsOf s (now (w .exit)))
+        (numbersOf s (now (m .exit))) (λ M u. withRow r (withBinary v a b (getD (floatsOf s (now (w .entry)) .rewritten) r nan) (rowOf u r)) u) ⌝ }
 {
     let k = space::get_binaries(m, s, r);
     let i = starts[r];
@@ -95,7 +98,7 @@ fn add_binary(
 
 // = rewriteBinding, of a row that holds v's new coefficient already: a was the old one, b is the
 // row's bound and bp the new one. The relaxation to add to bp.
-pub fn rewrite_binding(
+pub(crate) fn rewrite_binding(
     starts: &[usize],
     w: &mut [f64],
     m: &mut [usize],
@@ -108,7 +111,8 @@ pub fn rewrite_binding(
 ) -> f64
     requires { ⌜ (r < s .rows) × HoldsF s (now w) × HoldsN s (now m) × Alive (numbersOf s (now m)) r × LiveAt (now starts) (floatsOf s (now w)) (numbersOf s (now m)) r v ⌝ }
     requires { ⌜ Ready (Spans (now starts)) s (floatsOf s (now w)) (numbersOf s (now m)) ⌝ }
-    ensures { λ _. ⌜ Acts (Spans (now (starts .entry))) s (floatsOf s (now (w .entry))) (numbersOf s (now (m .entry))) (floatsOf s (now (w .exit))) (numbersOf s (now (m .exit))) (λ M u. withRow r (rebound r v a b bp M u) u) ⌝ }
+    ensures { λ _. ⌜ Acts (Spans (now (starts .entry))) s (floatsOf s (now (w .entry))) (numbersOf s (now (m .entry))) (floatsOf s (now (w .exit)))
+        (numbersOf s (now (m .exit))) (λ M u. withRow r (rebound r v a b bp M u) u) ⌝ }
     ensures { λ z. ⌜ Reads (Spans (now (starts .entry))) s (floatsOf s (now (w .entry))) (numbersOf s (now (m .entry))) z (reboundGrowth r v a b bp) ⌝ }
 {
     if folds::has_binary(starts, m, s, r, v) {

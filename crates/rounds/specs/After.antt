@@ -118,7 +118,8 @@ module _ {fs : List Float} {ds ss is : List ℕ} {cs : List Float} {os : List �
       after-both : ActsBool (Running fs ds ss is cs os bs js j) s f n f₂ n₂ (a || b) (λ M. afterWaves M)
       after-both =
           record {
-            does = λ M o k w p c h i. subst (λ (y : Work × Bool). Shows M f₂ n₂ o (y .0)) (sym (whole M w p)) (B .does M o k (tightenBinaryCoeffs M w .0) (running-dual M p) c (shown M o k w p c h i) (kept M k w p c i));
+            does = λ M o k w p c h i. subst (λ (y : Work × Bool). Shows M f₂ n₂ o (y .0)) (sym (whole M w p))
+                (B .does M o k (tightenBinaryCoeffs M w .0) (running-dual M p) c (shown M o k w p c h i) (kept M k w p c i));
             says = λ M o k w p c h i.
                 ap (λ (y : Work × Bool). y .1) (whole M w p)
                 ∙ ap (λ (x : Bool). x || dualFix M (tightenBinaryCoeffs M w .0) .1) (A .says M o k w (running-tightening M p) c h i)
@@ -131,7 +132,8 @@ module _ {fs : List Float} {ds ss is : List ℕ} {cs : List Float} {os : List �
           kept : (M : Model) (k : ℕ) (w : Work) → Running fs ds ss is cs os bs js j M → Call M s → Inv M k w → Inv M k (tightenBinaryCoeffs M w .0)
           kept M k w p c i = tighten-keeps {P = Running fs ds ss is cs os bs js j} {s = s} .keeps M k w p c i
 
-          whole : (M : Model) (w : Work) → Running fs ds ss is cs os bs js j M → afterWaves M w ≡ (dualFix M (tightenBinaryCoeffs M w .0) .0, tightenBinaryCoeffs M w .1 || dualFix M (tightenBinaryCoeffs M w .0) .1)
+          whole : (M : Model) (w : Work) → Running fs ds ss is cs os bs js j M
+              → afterWaves M w ≡ (dualFix M (tightenBinaryCoeffs M w .0) .0, tightenBinaryCoeffs M w .1 || dualFix M (tightenBinaryCoeffs M w .0) .1)
           whole M w p =
               let T = tightenBinaryCoeffs M w in
               let e : eqb (M .mode) 2 ≡ true = ap (λ (x : ℕ). eqb x 2) (p .mode) ∙ eqb-same j 2 two in

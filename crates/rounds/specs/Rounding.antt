@@ -29,7 +29,8 @@ use Rattle.wave.specs.Again.{leftOf, waves-keeps}
 use Rattle.rounds.specs.After.{after-keeps}
 
 -- a contract that asks for P holds where Q, which says more, is known
-pub waves-under : {P Q : Model → Type 0} {s : Shape} {f f′ : Floats} {n n′ : Numbers} {z : code.Step} {F : Model → Work → Step} → ((M : Model) → Q M → P M) → Waves P s f n f′ n′ z F → Waves Q s f n f′ n′ z F
+pub waves-under : {P Q : Model → Type 0} {s : Shape} {f f′ : Floats} {n n′ : Numbers} {z : code.Step} {F : Model → Work → Step} → ((M : Model) → Q M → P M)
+    → Waves P s f n f′ n′ z F → Waves Q s f n f′ n′ z F
 waves-under q t = record { does = λ M o k w p c h i. t .does M o k w (q M p) c h i }
 
 -- ---- the definition: the waves of a round, and what follows them

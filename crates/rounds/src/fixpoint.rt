@@ -1,4 +1,5 @@
-// The rounds: waves, and what follows them, until that changes nothing or no round is left.
+// src/presolve/mod.rs of microlp 0.7.0, changed: the rounds, waves and what follows them, until that
+// changes nothing or no round is left.
 ghost use Rattle.definition.specs.Rounds as definition;
 ghost use Rattle.space.specs.Store.{floatsOf, numbersOf, HoldsF, HoldsN};
 ghost use Rattle.view.specs.Acts.{Ready};
@@ -25,7 +26,9 @@ pub fn rounds(
 ) -> Step
     requires { ⌜ HoldsF s (now w) × HoldsN s (now m) ⌝ }
     requires { ⌜ Ready (Running (now obj) (now domain) (now starts) (now index) (now coeff) (now cmp) (now rhs) (now adj) mode) s (floatsOf s (now w)) (numbersOf s (now m)) ⌝ }
-    ensures { λ z. ⌜ Waves (Running (now (obj .entry)) (now (domain .entry)) (now (starts .entry)) (now (index .entry)) (now (coeff .entry)) (now (cmp .entry)) (now (rhs .entry)) (now (adj .entry)) mode) s (floatsOf s (now (w .entry))) (numbersOf s (now (m .entry))) (floatsOf s (now (w .exit))) (numbersOf s (now (m .exit))) z (λ M u. definition.rounds M (M .params .maxRounds) u) ⌝ }
+    ensures { λ z. ⌜ Waves (Running (now (obj .entry)) (now (domain .entry)) (now (starts .entry)) (now (index .entry)) (now (coeff .entry)) (now (cmp .entry))
+        (now (rhs .entry)) (now (adj .entry)) mode) s (floatsOf s (now (w .entry))) (numbersOf s (now (m .entry))) (floatsOf s (now (w .exit)))
+        (numbersOf s (now (m .exit))) z (λ M u. definition.rounds M (M .params .maxRounds) u) ⌝ }
 {
     let cap = formulas::max_rounds();
     let mut n: usize = 0;

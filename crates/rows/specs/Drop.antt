@@ -39,7 +39,8 @@ one-dropped {n = n} r x l e =
       wave = refl;
     })
 
-pub drop-acts : {s : Shape} {n n₁ n₂ : Numbers} (r : ℕ) → r < s .rows → length (n .alive) ≡ s .rows → length (n .dropped) ≡ 1 → n₁ ≡ put-alive r 0 n → n₂ ≡ put-dropped 0 ((getD (n₁ .dropped) 0 0 + 1) % 2 ^ 64) n₁
+pub drop-acts : {s : Shape} {n n₁ n₂ : Numbers} (r : ℕ) → r < s .rows → length (n .alive) ≡ s .rows → length (n .dropped) ≡ 1 → n₁ ≡ put-alive r 0 n
+    → n₂ ≡ put-dropped 0 ((getD (n₁ .dropped) 0 0 + 1) % 2 ^ 64) n₁
     → ActsN Any s n n₂ (λ M w. dropRow r (rowOf w r) w)
 unfolding dropRow
 drop-acts {n = n} {n₁} r p la ld e₁ e₂ =
@@ -70,7 +71,18 @@ pub inv-drop : {M : Model} {k : ℕ} (r : ℕ) (x : Row) (w : Work) → Inv M k 
 unfolding dropRow
 inv-drop r x w i =
     let j = inv-row r (withAlive false x) w i (λ z. never z) in
-    record { wlos = j .wlos; whis = j .whis; elos = j .elos; ehis = j .ehis; dirties = j .dirties; coeffDirties = j .coeffDirties; rowses = j .rowses; queue = j .queue; room = j .room; rows = j .rows }
+    record {
+      wlos = j .wlos;
+      whis = j .whis;
+      elos = j .elos;
+      ehis = j .ehis;
+      dirties = j .dirties;
+      coeffDirties = j .coeffDirties;
+      rowses = j .rowses;
+      queue = j .queue;
+      room = j .room;
+      rows = j .rows;
+    }
 
 -- the count of waves is another
 pub drop-passes : (r : ℕ) (x : Row) (w : Work) → dropRow r x w .counts .passes ≡ w .counts .passes

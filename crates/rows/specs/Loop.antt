@@ -68,7 +68,8 @@ module _ {P : Model → Type 0} {s : Shape} {f₀ : Floats} {n₀ : Numbers} {f 
     row-still = subst (RowAt ss s f n r) row-same (row-at c (now .shows) p still-alive (now .inv) (q M x))
 
     -- the term at place i is the one that the code read there
-    pub term-still : {j v : ℕ} {y : Float} → j < length (rowOf w r .terms) → v ≡ getD (n .vars) (getD ss r 0 + j) 0 → y ≡ getD (f .coeffs) (getD ss r 0 + j) nan → getD (rowOf w r .terms) j noTerm ≡ term v y
+    pub term-still : {j v : ℕ} {y : Float} → j < length (rowOf w r .terms) → v ≡ getD (n .vars) (getD ss r 0 + j) 0 → y ≡ getD (f .coeffs) (getD ss r 0 + j) nan
+        → getD (rowOf w r .terms) j noTerm ≡ term v y
     term-still {j} {v} {y} l ev ey =
         let t = row-still .terms j l in
         let bv : getD (rowOf w r .terms) j noTerm .var ≡ v = sym (t .var) ∙ sym ev in

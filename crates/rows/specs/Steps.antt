@@ -15,7 +15,8 @@ use Rattle.view.specs.Acts.{Acts, ActsN, Tries, Any}
 use Rattle.view.specs.Steps.{InvStep, stops, goes}
 
 module _ {P : Model → Type 0} {s : Shape} {f f′ : Floats} {n n′ : Numbers} where
-  pub tries-as : {z : code.Step} {F G : Model → Work → Step} → ((M : Model) (o : List ℕ) (k : ℕ) (w : Work) → P M → Call M s → Shows M f n o w → Inv M k w → F M w ≡ G M w) → Tries P s f n f′ n′ z G → Tries P s f n f′ n′ z F
+  pub tries-as : {z : code.Step} {F G : Model → Work → Step} → ((M : Model) (o : List ℕ) (k : ℕ) (w : Work) → P M → Call M s → Shows M f n o w → Inv M k w
+      → F M w ≡ G M w) → Tries P s f n f′ n′ z G → Tries P s f n f′ n′ z F
   tries-as {z = z} e t =
       record { does = λ M o k w p c h i. subst (λ (y : Step). StepShown M f′ n′ o z y) (sym (e M o k w p c h i)) (t .does M o k w p c h i) }
 

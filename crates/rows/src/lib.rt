@@ -1,4 +1,5 @@
-// What the steps share of one row: how many terms it has as written, and dropping it.
+// What the steps share of one row, of src/presolve/work.rs of microlp 0.7.0, changed: how many terms it
+// has as written, and dropping it.
 ghost use mathlib.Core.Path.{_≡_};
 ghost use Prim.Native.Nat.{_+_, _-_, _<_};
 ghost use lib.ListN.{getD};

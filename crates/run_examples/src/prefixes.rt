@@ -70,7 +70,7 @@ fn print_prefix(prefix: &[u8], last: &mut [u8], j: usize) -> usize
     keep(&text[..e], last)
 }
 
-pub fn print_prefixes(file: &[u8]) {
+pub(crate) fn print_prefixes(file: &[u8]) {
     let mut last = [0u8; 64];
     let mut j = 0;
     let mut n = 0;

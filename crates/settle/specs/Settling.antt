@@ -50,7 +50,8 @@ some-terms [] e = absurd (e refl)
 some-terms (t ∷ ts) e = refl
 
 -- ---- settle_alive
-module _ {P : Model → Type 0} {s : Shape} {f f₁ : Floats} {n n₁ : Numbers} (r : ℕ) (p : r < s .rows) (a : Alive n r) (A : Acts P s f n f₁ n₁ (λ M. folded r M)) {l : ℕ} (el : l ≡ getD (n₁ .len) r 0) where
+module _ {P : Model → Type 0} {s : Shape} {f f₁ : Floats} {n n₁ : Numbers} (r : ℕ) (p : r < s .rows) (a : Alive n r) (A : Acts P s f n f₁ n₁ (λ M. folded r M))
+    {l : ℕ} (el : l ≡ getD (n₁ .len) r 0) where
   module _ (M : Model) (o : List ℕ) (k : ℕ) (w : Work) (x : P M) (c : Call M s) (h : Shows M f n o w) (i : Inv M k w) where
     in-rows : r < length (M .rhs)
     in-rows = omega (arith, p, c .rows)
@@ -61,7 +62,8 @@ module _ {P : Model → Type 0} {s : Shape} {f f₁ : Floats} {n n₁ : Numbers}
     len-is : l ≡ length (foldFixed M r w (rowOf w r) .terms)
     len-is = el ∙ A .does M o k w x c h i .rows r in-rows still-alive .len ∙ ap (λ (y : Row). length (y .terms)) (folded-row r w in-rows i)
 
-  pub alive-empty : {f₂ : Floats} {n₂ : Numbers} {z : code.Step} → l ≡ 0 → Tries P s f₁ n₁ f₂ n₂ z (λ M u. emptyRowCheck M r (rowOf u r) u) → Tries P s f n f₂ n₂ z (λ M w. settleAlive M r (foldFixed M r w (rowOf w r)) w)
+  pub alive-empty : {f₂ : Floats} {n₂ : Numbers} {z : code.Step} → l ≡ 0 → Tries P s f₁ n₁ f₂ n₂ z (λ M u. emptyRowCheck M r (rowOf u r) u)
+      → Tries P s f n f₂ n₂ z (λ M w. settleAlive M r (foldFixed M r w (rowOf w r)) w)
   unfolding settleAlive
   alive-empty {f₂} {n₂} {z} e T =
       record {
@@ -82,7 +84,8 @@ module _ {P : Model → Type 0} {s : Shape} {f f₁ : Floats} {n n₁ : Numbers}
       }
 
 -- ---- settle_row
-module _ {P : Model → Type 0} {ss os : List ℕ} {bs : List Float} {s : Shape} (r : ℕ) (p : r < s .rows) (known : (M : Model) → P M → (M .starts ≡ ss) × (M .cmp ≡ os) × (M .rhs ≡ bs)) {t : Bool} (T : TellsTrivial s ss os bs r t) where
+module _ {P : Model → Type 0} {ss os : List ℕ} {bs : List Float} {s : Shape} (r : ℕ) (p : r < s .rows) (known : (M : Model) → P M → (M .starts ≡ ss)
+    × (M .cmp ≡ os) × (M .rhs ≡ bs)) {t : Bool} (T : TellsTrivial s ss os bs r t) where
   trivial-is : (M : Model) → P M → Call M s → trivial M r ≡ t
   trivial-is M x c = let a = known M x in T .tells M (a .0) (a .1) (a .2) c
 
@@ -99,7 +102,8 @@ module _ {P : Model → Type 0} {ss os : List ℕ} {bs : List Float} {s : Shape}
             subst (λ (y : Step). StepShown M f n o Next y) (sym (no _ _ (trivial-is M x c ∙ e) ∙ no _ _ g)) (went h);
       }
 
-  pub row-live : {f f₁ : Floats} {n n₁ : Numbers} {a : ℕ} {z : code.Step} → t ≡ false → a ≡ getD (n .alive) r 0 → a ≡ 1 → Tries P s f n f₁ n₁ z (λ M w. settleAlive M r (foldFixed M r w (rowOf w r)) w) → Tries P s f n f₁ n₁ z (λ M. settleRow M r)
+  pub row-live : {f f₁ : Floats} {n n₁ : Numbers} {a : ℕ} {z : code.Step} → t ≡ false → a ≡ getD (n .alive) r 0 → a ≡ 1 → Tries P s f n f₁ n₁ z
+      (λ M w. settleAlive M r (foldFixed M r w (rowOf w r)) w) → Tries P s f n f₁ n₁ z (λ M. settleRow M r)
   unfolding settleRow
   row-live {f₁ = f₁} {n₁ = n₁} {z = z} e ea b U =
       record {

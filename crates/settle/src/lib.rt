@@ -1,5 +1,7 @@
-// The last look at the rows: each is folded, and judged where no term is left. It may still find the
-// model infeasible.
+// src/presolve/mod.rs of microlp 0.7.0, changed: the last look at the rows.
+// Each is folded, and judged where no term is left: a fixing after the last wave, by dual fixing say,
+// can leave a row none, and such a row is judged and not emitted. So the model may still turn out
+// infeasible here.
 ghost use Prim.Native.Nat.{_<_};
 ghost use Rattle.definition.specs.Folds.{foldFixed};
 ghost use Rattle.space.specs.Store.{floatsOf, numbersOf, HoldsF, HoldsN};
@@ -24,7 +26,9 @@ fn settle_alive(
 ) -> Step
     requires { ⌜ (r < s .rows) × HoldsF s (now w) × HoldsN s (now m) × Alive (numbersOf s (now m)) r ⌝ }
     requires { ⌜ Ready (Written (now starts) (now index) (now coeff) (now cmp) (now rhs)) s (floatsOf s (now w)) (numbersOf s (now m)) ⌝ }
-    ensures { λ z. ⌜ Tries (Written (now (starts .entry)) (now (index .entry)) (now (coeff .entry)) (now (cmp .entry)) (now (rhs .entry))) s (floatsOf s (now (w .entry))) (numbersOf s (now (m .entry))) (floatsOf s (now (w .exit))) (numbersOf s (now (m .exit))) z (λ M u. settleAlive M r (foldFixed M r u (rowOf u r)) u) ⌝ }
+    ensures { λ z. ⌜ Tries (Written (now (starts .entry)) (now (index .entry)) (now (coeff .entry)) (now (cmp .entry)) (now (rhs .entry))) s
+        (floatsOf s (now (w .entry))) (numbersOf s (now (m .entry))) (floatsOf s (now (w .exit))) (numbersOf s (now (m .exit))) z
+        (λ M u. settleAlive M r (foldFixed M r u (rowOf u r)) u) ⌝ }
 {
     folds::fold_row(starts, index, coeff, cmp, rhs, w, m, s, r);
     let len = space::get_len(m, s, r);
@@ -48,7 +52,8 @@ fn settle_row(
 ) -> Step
     requires { ⌜ (r < s .rows) × HoldsF s (now w) × HoldsN s (now m) ⌝ }
     requires { ⌜ Ready (Written (now starts) (now index) (now coeff) (now cmp) (now rhs)) s (floatsOf s (now w)) (numbersOf s (now m)) ⌝ }
-    ensures { λ z. ⌜ Tries (Written (now (starts .entry)) (now (index .entry)) (now (coeff .entry)) (now (cmp .entry)) (now (rhs .entry))) s (floatsOf s (now (w .entry))) (numbersOf s (now (m .entry))) (floatsOf s (now (w .exit))) (numbersOf s (now (m .exit))) z (λ M. settleRow M r) ⌝ }
+    ensures { λ z. ⌜ Tries (Written (now (starts .entry)) (now (index .entry)) (now (coeff .entry)) (now (cmp .entry)) (now (rhs .entry))) s
+        (floatsOf s (now (w .entry))) (numbersOf s (now (m .entry))) (floatsOf s (now (w .exit))) (numbersOf s (now (m .exit))) z (λ M. settleRow M r) ⌝ }
 {
     if emit::is_trivial(starts, cmp, rhs, s, r) {
         return Step::Next;
@@ -73,7 +78,9 @@ pub fn settle_rows(
 ) -> Step
     requires { ⌜ HoldsF s (now w) × HoldsN s (now m) ⌝ }
     requires { ⌜ Ready (Written (now starts) (now index) (now coeff) (now cmp) (now rhs)) s (floatsOf s (now w)) (numbersOf s (now m)) ⌝ }
-    ensures { λ z. ⌜ Tries (Written (now (starts .entry)) (now (index .entry)) (now (coeff .entry)) (now (cmp .entry)) (now (rhs .entry))) s (floatsOf s (now (w .entry))) (numbersOf s (now (m .entry))) (floatsOf s (now (w .exit))) (numbersOf s (now (m .exit))) z (λ M. settleFrom M (s .rows) 0) ⌝ }
+    ensures { λ z. ⌜ Tries (Written (now (starts .entry)) (now (index .entry)) (now (coeff .entry)) (now (cmp .entry)) (now (rhs .entry))) s
+        (floatsOf s (now (w .entry))) (numbersOf s (now (m .entry))) (floatsOf s (now (w .exit))) (numbersOf s (now (m .exit))) z
+        (λ M. settleFrom M (s .rows) 0) ⌝ }
 {
     let mut r: usize = 0;
     while r < s.rows {

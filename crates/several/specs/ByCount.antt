@@ -46,18 +46,23 @@ module _ (M : Model) (r : ℕ) (row : Row) (w : Work) where
   count-more (t ∷ []) e d = absurd (d refl)
   count-more (t ∷ u ∷ ts) e d = refl
 
-len-of : {ss : List ℕ} {s : Shape} {f : Floats} {n : Numbers} {r l : ℕ} {M : Model} {o : List ℕ} {k : ℕ} {w : Work} → r < s .rows → Alive n r → l ≡ getD (n .len) r 0 → Spans ss M → Call M s → Shows M f n o w → Inv M k w → l ≡ length (rowOf w r .terms)
+len-of : {ss : List ℕ} {s : Shape} {f : Floats} {n : Numbers} {r l : ℕ} {M : Model} {o : List ℕ} {k : ℕ} {w : Work} → r < s .rows → Alive n r
+    → l ≡ getD (n .len) r 0 → Spans ss M → Call M s → Shows M f n o w → Inv M k w → l ≡ length (rowOf w r .terms)
 len-of p al el q c h i = el ∙ row-at c h p al i q .len
 
-module _ {ds ss is : List ℕ} {cs : List Float} {os : List ℕ} {bs : List Float} {js : List ℕ} {s : Shape} {f f′ : Floats} {n n′ : Numbers} {z : code.Step} (r : ℕ) {l : ℕ} (p : r < s .rows) (al : Alive n r) (el : l ≡ getD (n .len) r 0) where
-  pub by-none : l ≡ 0 → Tries (Written ss is cs os bs) s f n f′ n′ z (λ M w. emptyRowCheck M r (rowOf w r) w) → Tries (Known ds ss is cs os bs js) s f n f′ n′ z (λ M w. byCount M r (rowOf w r) (rowOf w r .terms) w)
+module _ {ds ss is : List ℕ} {cs : List Float} {os : List ℕ} {bs : List Float} {js : List ℕ} {s : Shape} {f f′ : Floats} {n n′ : Numbers} {z : code.Step}
+    (r : ℕ) {l : ℕ} (p : r < s .rows) (al : Alive n r) (el : l ≡ getD (n .len) r 0) where
+  pub by-none : l ≡ 0 → Tries (Written ss is cs os bs) s f n f′ n′ z (λ M w. emptyRowCheck M r (rowOf w r) w) → Tries (Known ds ss is cs os bs js) s f n f′ n′ z
+      (λ M w. byCount M r (rowOf w r) (rowOf w r .terms) w)
   by-none e t =
       tries-as (λ M o k w q c h i. count-none M r (rowOf w r) w (rowOf w r .terms) (sym (len-of p al el (known-spans M q) c h i) ∙ e)) (tries-under known-written t)
 
-  pub by-one : l ≡ 1 → Tries (Moves ds ss js) s f n f′ n′ z (λ M w. singletonRow M r (rowOf w r) (getD (rowOf w r .terms) 0 noTerm) w) → Tries (Known ds ss is cs os bs js) s f n f′ n′ z (λ M w. byCount M r (rowOf w r) (rowOf w r .terms) w)
+  pub by-one : l ≡ 1 → Tries (Moves ds ss js) s f n f′ n′ z (λ M w. singletonRow M r (rowOf w r) (getD (rowOf w r .terms) 0 noTerm) w)
+      → Tries (Known ds ss is cs os bs js) s f n f′ n′ z (λ M w. byCount M r (rowOf w r) (rowOf w r .terms) w)
   by-one e t = tries-as (λ M o k w q c h i. count-one M r (rowOf w r) w (rowOf w r .terms) (sym (len-of p al el (known-spans M q) c h i) ∙ e)) (tries-under known-moves t)
 
-  pub by-more : (l ≡ 0 → ⊥) → (l ≡ 1 → ⊥) → Tries (Moves ds ss js) s f n f′ n′ z (λ M w. severalTerms M r (rowOf w r) w) → Tries (Known ds ss is cs os bs js) s f n f′ n′ z (λ M w. byCount M r (rowOf w r) (rowOf w r .terms) w)
+  pub by-more : (l ≡ 0 → ⊥) → (l ≡ 1 → ⊥) → Tries (Moves ds ss js) s f n f′ n′ z (λ M w. severalTerms M r (rowOf w r) w)
+      → Tries (Known ds ss is cs os bs js) s f n f′ n′ z (λ M w. byCount M r (rowOf w r) (rowOf w r .terms) w)
   by-more e d t =
       tries-as
       (λ M o k w q c h i.

@@ -64,7 +64,8 @@ module _ {A B : Type 0} (g : A → B) where
   through false x y = refl
 
 several-is : (M : Model) (r : ℕ) (row : Row) (w : Work)
-    → severalTerms M r row w ≡ choose (unreachable M r row (activity M w row true)) (stop (w .counts)) (ended M r row (activity M w row true) w (endOf M r row (activity M w row true) (activity M w row false) w))
+    → severalTerms M r row w ≡ choose (unreachable M r row (activity M w row true)) (stop (w .counts))
+    (ended M r row (activity M w row true) w (endOf M r row (activity M w row true) (activity M w row false) w))
 unfolding severalTerms endOf ended
 several-is M r row w =
     let act = activity M w row true in
@@ -76,7 +77,8 @@ several-is M r row w =
     rw (a, b, d) refl
 
 -- ---- force_row
-pub force-acts : {P : Model → Type 0} {s : Shape} {f f₁ : Floats} {n n₁ n₂ : Numbers} (minCorner : Bool) (r : ℕ) → Acts P s f n f₁ n₁ (λ M w. fixAll M minCorner w (rowOf w r .terms) w) → ActsN Any s n₁ n₂ (λ M w. dropRow r (rowOf w r) w)
+pub force-acts : {P : Model → Type 0} {s : Shape} {f f₁ : Floats} {n n₁ n₂ : Numbers} (minCorner : Bool) (r : ℕ) → Acts P s f n f₁ n₁
+    (λ M w. fixAll M minCorner w (rowOf w r .terms) w) → ActsN Any s n₁ n₂ (λ M w. dropRow r (rowOf w r) w)
     → Acts P s f n f₁ n₂ (λ M w. dropRow r (rowOf w r) (fixAll M minCorner w (rowOf w r .terms) w))
 force-acts minCorner r t u =
     acts-as
@@ -95,7 +97,8 @@ holds : (b : Bool) → not b ≡ false → b ≡ true
 holds true t = refl
 holds false t = absurd (let z : _≡_ {A = ℕ} 0 1 = (let y = t in cc) in omega arith)
 
-module _ {ds ss : List ℕ} {s : Shape} {f : Floats} {n : Numbers} (r : ℕ) (act : Activity) {e : Activity} {b : Bool} (a : Bool) (t : not a ≡ false) (ea : Reads (Spans ss) s f n e (λ M w. activity M w (rowOf w r) false)) (eb : Reads (Looks ds ss) s f n b (λ M w. forcesMin M r (rowOf w r) act e w)) where
+module _ {ds ss : List ℕ} {s : Shape} {f : Floats} {n : Numbers} (r : ℕ) (act : Activity) {e : Activity} {b : Bool} (a : Bool) (t : not a ≡ false)
+    (ea : Reads (Spans ss) s f n e (λ M w. activity M w (rowOf w r) false)) (eb : Reads (Looks ds ss) s f n b (λ M w. forcesMin M r (rowOf w r) act e w)) where
   reads-end : {z : Ending} → ((M : Model) (o : List ℕ) (k : ℕ) (w : Work) → Looks ds ss M → Call M s → Shows M f n o w → Inv M k w → endOf M r (rowOf w r) act e w ≡ z)
       → Reads (Looks ds ss) s f n z (λ M w. endIf a (endOf M r (rowOf w r) act (activity M w (rowOf w r) false) w))
   unfolding endIf
@@ -141,7 +144,8 @@ module _ {tol : Float} {l : ℕ} (x : Limits) (act : Activity) where
       }
 
 -- ---- several_terms
-module _ {ds ss js : List ℕ} {s : Shape} {f : Floats} {n : Numbers} (r : ℕ) {act : Activity} {x : Limits} {l : ℕ} {b : Bool} (al : Alive n r) (ea : Reads (Spans ss) s f n act (λ M w. activity M w (rowOf w r) true)) (lim : ReadsLimits s f r x) (en : l ≡ getD ss (r + 1) 0 - getD ss r 0)
+module _ {ds ss js : List ℕ} {s : Shape} {f : Floats} {n : Numbers} (r : ℕ) {act : Activity} {x : Limits} {l : ℕ} {b : Bool} (al : Alive n r)
+    (ea : Reads (Spans ss) s f n act (λ M w. activity M w (rowOf w r) true)) (lim : ReadsLimits s f r x) (en : l ≡ getD ss (r + 1) 0 - getD ss r 0)
     (eb : Says (s .feas) l b (λ M q. unreachable M q (bare x) act)) where
   reach-is : {M : Model} {o : List ℕ} {k : ℕ} {w : Work} → Moves ds ss js M → Call M s → Shows M f n o w → Inv M k w → unreachable M r (rowOf w r) (activity M w (rowOf w r) true) ≡ b
   reach-is {M} {o} {k} {w} p c h i =
@@ -150,7 +154,8 @@ module _ {ds ss js : List ℕ} {s : Shape} {f : Floats} {n : Numbers} (r : ℕ) 
   pub several-stop : b ≡ true → Tries (Moves ds ss js) s f n f n Stop (λ M w. severalTerms M r (rowOf w r) w)
   several-stop t = record { does = λ M o k w p c h i. stopped-by {w = w} (several-is M r (rowOf w r) w ∙ yes _ _ (reach-is p c h i ∙ t)) h }
 
-  module _ {a : Bool} {z : Ending} (t : b ≡ false) (er : Says (s .feas) l a (λ M q. mayReduce M q (bare x) act)) (ez : Reads (Looks ds ss) s f n z (λ M w. endIf a (endOf M r (rowOf w r) act (activity M w (rowOf w r) false) w))) where
+  module _ {a : Bool} {z : Ending} (t : b ≡ false) (er : Says (s .feas) l a (λ M q. mayReduce M q (bare x) act)) (ez : Reads (Looks ds ss) s f n z
+      (λ M w. endIf a (endOf M r (rowOf w r) act (activity M w (rowOf w r) false) w))) where
     -- with or without the look at the emitted activity
     ends : {M : Model} {o : List ℕ} {k : ℕ} {w : Work} → Moves ds ss js M → Call M s → Shows M f n o w → Inv M k w → severalTerms M r (rowOf w r) w ≡ ended M r (rowOf w r) act w z
     unfolding endIf ended
@@ -168,15 +173,18 @@ module _ {ds ss js : List ℕ} {s : Shape} {f : Floats} {n : Numbers} (r : ℕ) 
             ∙ ap (λ (y : Activity). ended M r (rowOf w r) y w (endOf M r (rowOf w r) y (activity M w (rowOf w r) false) w)) seen
             ∙ ap (ended M r (rowOf w r) act w) (ap (λ (d : Bool). endIf d (endOf M r (rowOf w r) act (activity M w (rowOf w r) false) w)) (sym q) ∙ read)
         by false q =
-            let m : mayReduce M r (rowOf w r) (activity M w (rowOf w r) true) ≡ false = ap (mayReduce M r (rowOf w r)) seen ∙ sym (er .of M r (of-call c (moves-spans M p) en) ∙ may-reduce-of M r act (lim .has M n o w c h al)) ∙ q in
+            let m : mayReduce M r (rowOf w r) (activity M w (rowOf w r) true) ≡ false = ap (mayReduce M r (rowOf w r)) seen
+            ∙ sym (er .of M r (of-call c (moves-spans M p) en) ∙ may-reduce-of M r act (lim .has M n o w c h al)) ∙ q in
             several-of M r (rowOf w r) w (reach-is p c h i ∙ t) m ∙ ap (λ (y : Activity). impliedBounds M r (rowOf w r) y (rowOf w r .terms) w) seen
             ∙ ap (ended M r (rowOf w r) act w) (ap (λ (d : Bool). endIf d (endOf M r (rowOf w r) act (activity M w (rowOf w r) false) w)) (sym q) ∙ read)
 
-    pub several-min : {f′ : Floats} {n′ : Numbers} → z ≡ ForceMin → Acts (Marks ss js) s f n f′ n′ (λ M w. dropRow r (rowOf w r) (fixAll M true w (rowOf w r .terms) w)) → Tries (Moves ds ss js) s f n f′ n′ Next (λ M w. severalTerms M r (rowOf w r) w)
+    pub several-min : {f′ : Floats} {n′ : Numbers} → z ≡ ForceMin → Acts (Marks ss js) s f n f′ n′
+        (λ M w. dropRow r (rowOf w r) (fixAll M true w (rowOf w r .terms) w)) → Tries (Moves ds ss js) s f n f′ n′ Next (λ M w. severalTerms M r (rowOf w r) w)
     unfolding ended
     several-min v u = record { does = λ M o k w p c h i. went-by (ends p c h i ∙ ap (ended M r (rowOf w r) act w) v) (u .does M o k w (moves-marks M p) c h i) }
 
-    pub several-max : {f′ : Floats} {n′ : Numbers} → z ≡ ForceMax → Acts (Marks ss js) s f n f′ n′ (λ M w. dropRow r (rowOf w r) (fixAll M false w (rowOf w r .terms) w)) → Tries (Moves ds ss js) s f n f′ n′ Next (λ M w. severalTerms M r (rowOf w r) w)
+    pub several-max : {f′ : Floats} {n′ : Numbers} → z ≡ ForceMax → Acts (Marks ss js) s f n f′ n′
+        (λ M w. dropRow r (rowOf w r) (fixAll M false w (rowOf w r .terms) w)) → Tries (Moves ds ss js) s f n f′ n′ Next (λ M w. severalTerms M r (rowOf w r) w)
     unfolding ended
     several-max v u = record { does = λ M o k w p c h i. went-by (ends p c h i ∙ ap (ended M r (rowOf w r) act w) v) (u .does M o k w (moves-marks M p) c h i) }
 
@@ -184,7 +192,8 @@ module _ {ds ss js : List ℕ} {s : Shape} {f : Floats} {n : Numbers} (r : ℕ) 
     unfolding ended
     several-drop v u = record { does = λ M o k w p c h i. went-by (ends p c h i ∙ ap (ended M r (rowOf w r) act w) v) (u .does M f o k w tt c h i) }
 
-    pub several-implied : {f′ : Floats} {n′ : Numbers} {y : code.Step} → z ≡ Open → Tries (Moves ds ss js) s f n f′ n′ y (λ M w. impliedBounds M r (rowOf w r) act (rowOf w r .terms) w) → Tries (Moves ds ss js) s f n f′ n′ y (λ M w. severalTerms M r (rowOf w r) w)
+    pub several-implied : {f′ : Floats} {n′ : Numbers} {y : code.Step} → z ≡ Open → Tries (Moves ds ss js) s f n f′ n′ y
+        (λ M w. impliedBounds M r (rowOf w r) act (rowOf w r .terms) w) → Tries (Moves ds ss js) s f n f′ n′ y (λ M w. severalTerms M r (rowOf w r) w)
     unfolding ended
     several-implied v u = tries-as (λ M o k w p c h i. ends p c h i ∙ ap (ended M r (rowOf w r) act w) v) u
 

@@ -1,4 +1,4 @@
-// One row of a wave, by its count of terms.
+// `primal_wave` of src/presolve/work.rs of microlp 0.7.0, changed: one row, by its count of terms.
 ghost use Prim.Native.Nat.{_<_};
 ghost use Rattle.definition.specs.Wave.{byCount};
 ghost use Rattle.space.specs.Store.{floatsOf, numbersOf, HoldsF, HoldsN};
@@ -25,7 +25,9 @@ pub fn by_count(
 ) -> Step
     requires { ⌜ (r < s .rows) × HoldsF s (now w) × HoldsN s (now m) × Alive (numbersOf s (now m)) r ⌝ }
     requires { ⌜ Ready (Known (now domain) (now starts) (now index) (now coeff) (now cmp) (now rhs) (now adj)) s (floatsOf s (now w)) (numbersOf s (now m)) ⌝ }
-    ensures { λ z. ⌜ Tries (Known (now (domain .entry)) (now (starts .entry)) (now (index .entry)) (now (coeff .entry)) (now (cmp .entry)) (now (rhs .entry)) (now (adj .entry))) s (floatsOf s (now (w .entry))) (numbersOf s (now (m .entry))) (floatsOf s (now (w .exit))) (numbersOf s (now (m .exit))) z (λ M u. byCount M r (rowOf u r) (rowOf u r .terms) u) ⌝ }
+    ensures { λ z. ⌜ Tries (Known (now (domain .entry)) (now (starts .entry)) (now (index .entry)) (now (coeff .entry)) (now (cmp .entry)) (now (rhs .entry))
+        (now (adj .entry))) s (floatsOf s (now (w .entry))) (numbersOf s (now (m .entry))) (floatsOf s (now (w .exit))) (numbersOf s (now (m .exit))) z
+        (λ M u. byCount M r (rowOf u r) (rowOf u r .terms) u) ⌝ }
 {
     let n = space::get_len(m, s, r);
     if n == 0 {

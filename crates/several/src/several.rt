@@ -1,4 +1,5 @@
-// A row of two terms or more: infeasible, forcing, redundant, or else its implied bounds.
+// `primal_wave` of src/presolve/work.rs of microlp 0.7.0, changed: a row of two terms or more is
+// infeasible, forcing, redundant, or else its implied bounds are taken.
 ghost use Prim.Native.Nat.{_<_};
 ghost use mathlib.Core.Path.{_≡_};
 ghost use mathlib.Core.Bool.{true, false, _||_};
@@ -31,7 +32,8 @@ fn force_row(
 )
     requires { ⌜ (r < s .rows) × HoldsF s (now w) × HoldsN s (now m) × Alive (numbersOf s (now m)) r ⌝ }
     requires { ⌜ Ready (Marks (now starts) (now adj)) s (floatsOf s (now w)) (numbersOf s (now m)) ⌝ }
-    ensures { λ _. ⌜ Acts (Marks (now (starts .entry)) (now (adj .entry))) s (floatsOf s (now (w .entry))) (numbersOf s (now (m .entry))) (floatsOf s (now (w .exit))) (numbersOf s (now (m .exit))) (λ M u. dropRow r (rowOf u r) (fixAll M minCorner u (rowOf u r .terms) u)) ⌝ }
+    ensures { λ _. ⌜ Acts (Marks (now (starts .entry)) (now (adj .entry))) s (floatsOf s (now (w .entry))) (numbersOf s (now (m .entry)))
+        (floatsOf s (now (w .exit))) (numbersOf s (now (m .exit))) (λ M u. dropRow r (rowOf u r) (fixAll M minCorner u (rowOf u r .terms) u)) ⌝ }
 {
     forcing::fix_all(starts, adj, w, m, s, r, minCorner);
     rows::drop_row(m, s, r);
@@ -58,7 +60,8 @@ fn end_of(
 ) -> Ending
     requires { ⌜ (r < s .rows) × HoldsF s (now w) × HoldsN s (now m) × Alive (numbersOf s (now m)) r ⌝ }
     requires { ⌜ Ready (Looks (now domain) (now starts)) s (floatsOf s (now w)) (numbersOf s (now m)) ⌝ }
-    ensures { λ z. ⌜ Reads (Looks (now (domain .entry)) (now (starts .entry))) s (floatsOf s (now (w .entry))) (numbersOf s (now (m .entry))) z (λ M u. endIf reduces (endOf M r (rowOf u r) act (activities.activity M u (rowOf u r) false) u)) ⌝ }
+    ensures { λ z. ⌜ Reads (Looks (now (domain .entry)) (now (starts .entry))) s (floatsOf s (now (w .entry))) (numbersOf s (now (m .entry))) z
+        (λ M u. endIf reduces (endOf M r (rowOf u r) act (activities.activity M u (rowOf u r) false) u)) ⌝ }
 {
     if !reduces {
         return Ending::Open;
@@ -110,7 +113,7 @@ fn reach_of(feas: f64, terms: usize, x: Limits, act: Activity) -> Reach
 }
 
 // = severalTerms. implied_bounds is called from one place, so that it is compiled into this.
-pub fn several_terms(
+pub(crate) fn several_terms(
     domain: &[u8],
     starts: &[usize],
     adj: &[usize],
@@ -121,7 +124,8 @@ pub fn several_terms(
 ) -> Step
     requires { ⌜ (r < s .rows) × HoldsF s (now w) × HoldsN s (now m) × Alive (numbersOf s (now m)) r ⌝ }
     requires { ⌜ Ready (Moves (now domain) (now starts) (now adj)) s (floatsOf s (now w)) (numbersOf s (now m)) ⌝ }
-    ensures { λ z. ⌜ Tries (Moves (now (domain .entry)) (now (starts .entry)) (now (adj .entry))) s (floatsOf s (now (w .entry))) (numbersOf s (now (m .entry))) (floatsOf s (now (w .exit))) (numbersOf s (now (m .exit))) z (λ M u. severalTerms M r (rowOf u r) u) ⌝ }
+    ensures { λ z. ⌜ Tries (Moves (now (domain .entry)) (now (starts .entry)) (now (adj .entry))) s (floatsOf s (now (w .entry))) (numbersOf s (now (m .entry)))
+        (floatsOf s (now (w .exit))) (numbersOf s (now (m .exit))) z (λ M u. severalTerms M r (rowOf u r) u) ⌝ }
 {
     let act = readers::working_activity(starts, w, m, s, r);
     let x = readers::limits(w, s, r);

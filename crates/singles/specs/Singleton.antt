@@ -42,8 +42,10 @@ pub record ReadsRow {A : Type 0} (P : Model → Type 0) (s : Shape) (f : Floats)
   pub reads : (n : Numbers) → Alive n r → Reads P s f n z F
 
 -- ---- singleton_int
-module _ {ss js : List ℕ} {s : Shape} {f : Floats} {n : Numbers} (r v : ℕ) (a blo bhi : Float) {x : Limits} {l : ℕ} {el eh lo hi : Float} (al : Alive n r) (lim : ReadsLimits s f r x) (en : l ≡ getD ss (r + 1) 0 - getD ss r 0)
-    (e₁ : el ≡ getD (f .elo) v nan) (e₂ : eh ≡ getD (f .ehi) v nan) (e₃ : Says (s .feas) l lo (λ M q. newLower M q (bare x) a blo el)) (e₄ : Says (s .feas) l hi (λ M q. newUpper M q (bare x) a bhi eh)) where
+module _ {ss js : List ℕ} {s : Shape} {f : Floats} {n : Numbers} (r v : ℕ) (a blo bhi : Float) {x : Limits} {l : ℕ} {el eh lo hi : Float} (al : Alive n r)
+    (lim : ReadsLimits s f r x) (en : l ≡ getD ss (r + 1) 0 - getD ss r 0)
+    (e₁ : el ≡ getD (f .elo) v nan) (e₂ : eh ≡ getD (f .ehi) v nan) (e₃ : Says (s .feas) l lo (λ M q. newLower M q (bare x) a blo el))
+    (e₄ : Says (s .feas) l hi (λ M q. newUpper M q (bare x) a bhi eh)) where
   lower-is : {M : Model} {o : List ℕ} {w : Work} → Marks ss js M → Call M s → Shows M f n o w → newLower M r (rowOf w r) a blo (at (w .elo) v) ≡ lo
   lower-is {M} {o} {w} p c h =
       ap (newLower M r (rowOf w r) a blo) (sym (elo-is v h e₁)) ∙ sym (e₃ .of M r (of-call c (marks-spans M p) en) ∙ new-lower-of M r a blo el (lim .has M n o w c h al))
@@ -52,18 +54,21 @@ module _ {ss js : List ℕ} {s : Shape} {f : Floats} {n : Numbers} (r v : ℕ) (
   upper-is {M} {o} {w} p c h =
       ap (newUpper M r (rowOf w r) a bhi) (sym (ehi-is v h e₂)) ∙ sym (e₄ .of M r (of-call c (marks-spans M p) en) ∙ new-upper-of M r a bhi eh (lim .has M n o w c h al))
 
-  int-is : {M : Model} {o : List ℕ} {w : Work} → Marks ss js M → Call M s → Shows M f n o w → singletonInt M r (rowOf w r) v a blo bhi w ≡ choose (gt lo hi) (stop (w .counts)) (next (emitBounds M v lo hi w))
+  int-is : {M : Model} {o : List ℕ} {w : Work} → Marks ss js M → Call M s → Shows M f n o w → singletonInt M r (rowOf w r) v a blo bhi w
+      ≡ choose (gt lo hi) (stop (w .counts)) (next (emitBounds M v lo hi w))
   unfolding singletonInt
   int-is {M} {o} {w} p c h = rw (lower-is p c h, upper-is p c h)
 
   pub int-stop : gt lo hi ≡ true → Tries (Marks ss js) s f n f n Stop (λ M w. singletonInt M r (rowOf w r) v a blo bhi w)
   int-stop e = record { does = λ M o k w p c h i. stopped-by {w = w} (int-is p c h ∙ yes _ _ e) h }
 
-  pub int-emit : {f′ : Floats} {n′ : Numbers} → gt lo hi ≡ false → Acts (Adj js) s f n f′ n′ (λ M. emitBounds M v lo hi) → Tries (Marks ss js) s f n f′ n′ Next (λ M w. singletonInt M r (rowOf w r) v a blo bhi w)
+  pub int-emit : {f′ : Floats} {n′ : Numbers} → gt lo hi ≡ false → Acts (Adj js) s f n f′ n′ (λ M. emitBounds M v lo hi) → Tries (Marks ss js) s f n f′ n′ Next
+      (λ M w. singletonInt M r (rowOf w r) v a blo bhi w)
   int-emit e t = record { does = λ M o k w p c h i. went-by (int-is p c h ∙ no _ _ e) (t .does M o k w (marks-adj M p) c h i) }
 
 -- ---- singleton_misses
-pub misses-is : {ss : List ℕ} {s : Shape} {f : Floats} (r v : ℕ) (a blo bhi : Float) {x : Limits} {l : ℕ} {el eh low high : Float} {z : Bool} → ReadsLimits s f r x → l ≡ getD ss (r + 1) 0 - getD ss r 0 → el ≡ getD (f .elo) v nan → eh ≡ getD (f .ehi) v nan
+pub misses-is : {ss : List ℕ} {s : Shape} {f : Floats} (r v : ℕ) (a blo bhi : Float) {x : Limits} {l : ℕ} {el eh low high : Float} {z : Bool}
+    → ReadsLimits s f r x → l ≡ getD ss (r + 1) 0 - getD ss r 0 → el ≡ getD (f .elo) v nan → eh ≡ getD (f .ehi) v nan
     → ReadsF Any s f low (λ M w. boundTol M w v false) → ReadsF Any s f high (λ M w. boundTol M w v true) → Says (s .feas) l z (λ M q. missesAt M q (bare x) a blo bhi el eh low high)
     → ReadsRow (Spans ss) s f r z (λ M w. singletonMisses M r (rowOf w r) v a blo bhi w)
 misses-is r v a blo bhi lim en e₁ e₂ t₁ t₂ ez =
@@ -71,13 +76,15 @@ misses-is r v a blo bhi lim en e₁ e₂ t₁ t₂ ez =
       reads = λ n al.
           record {
             reads = λ M o k w p c h i.
-                sym (misses-of M v a w r blo bhi (lim .has M n o w c h al)) ∙ cc (elo-is v h e₁, ehi-is v h e₂, t₁ .reads M n o k w tt c h i, t₂ .reads M n o k w tt c h i, ez .of M r (of-call c p en));
+                sym (misses-of M v a w r blo bhi (lim .has M n o w c h al))
+                ∙ cc (elo-is v h e₁, ehi-is v h e₂, t₁ .reads M n o k w tt c h i, t₂ .reads M n o k w tt c h i, ez .of M r (of-call c p en));
           };
     }
 
 -- ---- singleton_bounds
 module _ {ds ss js : List ℕ} {s : Shape} {f : Floats} {n : Numbers} (r v : ℕ) (a blo bhi : Float) {b : Bool} (eb : ReadsM (Domains ds) s b (λ M. isInt M v)) where
-  pub bounds-int : {f′ : Floats} {n′ : Numbers} {z : code.Step} → b ≡ true → Tries (Marks ss js) s f n f′ n′ z (λ M w. singletonInt M r (rowOf w r) v a blo bhi w) → Tries (Moves ds ss js) s f n f′ n′ z (λ M w. singletonBounds M r (rowOf w r) v a blo bhi w)
+  pub bounds-int : {f′ : Floats} {n′ : Numbers} {z : code.Step} → b ≡ true → Tries (Marks ss js) s f n f′ n′ z
+      (λ M w. singletonInt M r (rowOf w r) v a blo bhi w) → Tries (Moves ds ss js) s f n f′ n′ z (λ M w. singletonBounds M r (rowOf w r) v a blo bhi w)
   unfolding singletonBounds
   bounds-int e t = tries-as (λ M o k w p c h i. yes _ _ (eb .reads M (moves-domains M p) c ∙ e)) (tries-under moves-marks t)
 
@@ -97,7 +104,8 @@ module _ {ds ss js : List ℕ} {s : Shape} {f : Floats} {n : Numbers} (r v : ℕ
         }
 
 -- ---- row_implied
-module _ {s : Shape} {f : Floats} (r v : ℕ) (a blo bhi : Float) {x : Limits} {el low : Float} {b : Bool} (lim : ReadsLimits s f r x) (e₁ : el ≡ getD (f .elo) v nan) (t₁ : ReadsF Any s f low (λ M w. boundTol M w v false))
+module _ {s : Shape} {f : Floats} (r v : ℕ) (a blo bhi : Float) {x : Limits} {el low : Float} {b : Bool} (lim : ReadsLimits s f r x)
+    (e₁ : el ≡ getD (f .elo) v nan) (t₁ : ReadsF Any s f low (λ M w. boundTol M w v false))
     (eb : ByTol (s .feas) b (λ M. meetsLower M (bare x) a blo el low)) where
   low-is : {M : Model} {n : Numbers} {o : List ℕ} {k : ℕ} {w : Work} → Alive n r → Call M s → Shows M f n o w → Inv M k w → lowerMeets M (rowOf w r) v a blo w ≡ b
   low-is {M} {n} {o} {k} {w} al c h i =
@@ -119,7 +127,8 @@ module _ {s : Shape} {f : Floats} (r v : ℕ) (a blo bhi : Float) {x : Limits} {
       }
 
 -- ---- singleton_drop
-module _ {s : Shape} {f : Floats} {n : Numbers} (r v : ℕ) (a blo bhi : Float) {b : Bool} (al : Alive n r) (eb : ReadsRow Any s f r b (λ M w. lowerMeets M (rowOf w r) v a blo w && upperMeets M (rowOf w r) v a bhi w)) where
+module _ {s : Shape} {f : Floats} {n : Numbers} (r v : ℕ) (a blo bhi : Float) {b : Bool} (al : Alive n r) (eb : ReadsRow Any s f r b
+    (λ M w. lowerMeets M (rowOf w r) v a blo w && upperMeets M (rowOf w r) v a bhi w)) where
   pub single-drop : {n′ : Numbers} → b ≡ true → ActsN Any s n n′ (λ M w. dropRow r (rowOf w r) w) → Acts Any s f n f n′ (λ M w. singletonDrop M r (rowOf w r) v a blo bhi w)
   unfolding singletonDrop
   single-drop {n′} e t =
@@ -167,7 +176,8 @@ passes-single M r row t w =
     (λ u. same (passes-single-drop M r (t .var) row (t .coeff) (lowerSide row (t .coeff)) (upperSide row (t .coeff)) u)))
 
 -- ---- singleton_row
-module _ {P : Model → Type 0} {s : Shape} {f : Floats} {n : Numbers} {ss : List ℕ} {r : ℕ} (R : Ready P s f n) (q : (M : Model) → P M → Spans ss M) (p : r < s .rows) (al : Alive n r) (one : getD (n .len) r 0 ≡ 1) where
+module _ {P : Model → Type 0} {s : Shape} {f : Floats} {n : Numbers} {ss : List ℕ} {r : ℕ} (R : Ready P s f n) (q : (M : Model) → P M → Spans ss M)
+    (p : r < s .rows) (al : Alive n r) (one : getD (n .len) r 0 ≡ 1) where
   pub single-place : getD ss r 0 < s .terms
   single-place = omega (arith, live-place R q p al {j = 0} (omega (arith, one)))
 
@@ -176,7 +186,8 @@ module _ {P : Model → Type 0} {s : Shape} {f : Floats} {n : Numbers} {ss : Lis
       let z : getD ss r 0 ≡ getD ss r 0 + 0 = omega arith in
       live-var R q p al {j = 0} {x = v} (omega (arith, one)) (e ∙ ap (λ (j : ℕ). getD (n .vars) j 0) z)
 
-module _ {ds ss js : List ℕ} {s : Shape} {f : Floats} {n : Numbers} (r : ℕ) {v : ℕ} {a blo bhi : Float} {x : Limits} (p : r < s .rows) (al : Alive n r) (one : getD (n .len) r 0 ≡ 1) (ev : v ≡ getD (n .vars) (getD ss r 0) 0) (ea : a ≡ getD (f .coeffs) (getD ss r 0) nan)
+module _ {ds ss js : List ℕ} {s : Shape} {f : Floats} {n : Numbers} (r : ℕ) {v : ℕ} {a blo bhi : Float} {x : Limits} (p : r < s .rows) (al : Alive n r)
+    (one : getD (n .len) r 0 ≡ 1) (ev : v ≡ getD (n .vars) (getD ss r 0) 0) (ea : a ≡ getD (f .coeffs) (getD ss r 0) nan)
     (lim : ReadsLimits s f r x) (e₁ : blo ≡ lowerSide (bare x) a) (e₂ : bhi ≡ upperSide (bare x) a) where
   single-is : {M : Model} {o : List ℕ} {k : ℕ} {w : Work} → Moves ds ss js M → Call M s → Shows M f n o w → Inv M k w
       → singletonRow M r (rowOf w r) (getD (rowOf w r .terms) 0 noTerm) w ≡ (singletonBounds M r (rowOf w r) v a blo bhi w >>= λ w1. next (singletonDrop M r (rowOf w r) v a blo bhi w1))
@@ -194,14 +205,16 @@ module _ {ds ss js : List ℕ} {s : Shape} {f : Floats} {n : Numbers} (r : ℕ) 
       ∙ ap (λ (y : Float). singletonBounds M r row v a y (upperSide row a) w >>= λ w1. next (singletonDrop M r row v a y (upperSide row a) w1)) b₁
       ∙ ap (λ (y : Float). singletonBounds M r row v a blo y w >>= λ w1. next (singletonDrop M r row v a blo y w1)) b₂
 
-  pub single-stop : {f₁ : Floats} {n₁ : Numbers} → Tries (Moves ds ss js) s f n f₁ n₁ Stop (λ M w. singletonBounds M r (rowOf w r) v a blo bhi w) → Tries (Moves ds ss js) s f n f₁ n₁ Stop (λ M w. singletonRow M r (rowOf w r) (getD (rowOf w r .terms) 0 noTerm) w)
+  pub single-stop : {f₁ : Floats} {n₁ : Numbers} → Tries (Moves ds ss js) s f n f₁ n₁ Stop (λ M w. singletonBounds M r (rowOf w r) v a blo bhi w)
+      → Tries (Moves ds ss js) s f n f₁ n₁ Stop (λ M w. singletonRow M r (rowOf w r) (getD (rowOf w r .terms) 0 noTerm) w)
   single-stop {f₁} {n₁} t =
       record {
         does = λ M o k w q c h i.
             subst (λ (z : Step). StepShown M f₁ n₁ o Stop z) (sym (single-is q c h i)) (stopped-then (λ w1. next (singletonDrop M r (rowOf w r) v a blo bhi w1)) (t .does M o k w q c h i));
       }
 
-  pub single-goes : {f₁ : Floats} {n₁ n₂ : Numbers} → Tries (Moves ds ss js) s f n f₁ n₁ Next (λ M w. singletonBounds M r (rowOf w r) v a blo bhi w) → Acts Any s f₁ n₁ f₁ n₂ (λ M w. singletonDrop M r (rowOf w r) v a blo bhi w)
+  pub single-goes : {f₁ : Floats} {n₁ n₂ : Numbers} → Tries (Moves ds ss js) s f n f₁ n₁ Next (λ M w. singletonBounds M r (rowOf w r) v a blo bhi w)
+      → Acts Any s f₁ n₁ f₁ n₂ (λ M w. singletonDrop M r (rowOf w r) v a blo bhi w)
       → Tries (Moves ds ss js) s f n f₁ n₂ Next (λ M w. singletonRow M r (rowOf w r) (getD (rowOf w r .terms) 0 noTerm) w)
   single-goes {f₁} {n₁} {n₂} t u =
       record {

@@ -1,4 +1,5 @@
-// A row of one term: it bounds its variable, and leaves where the variable's bounds imply it.
+// `singleton_row` of src/presolve/work.rs of microlp 0.7.0, changed: a row of one term bounds its
+// variable, and leaves where the variable's bounds imply it.
 ghost use mathlib.Core.Path.{_≡_};
 ghost use Prim.Native.Nat.{_<_};
 ghost use mathlib.Core.Bool.{_&&_};
@@ -29,7 +30,8 @@ fn singleton_int(
 ) -> Step
     requires { ⌜ (r < s .rows) × (v < s .vars) × HoldsF s (now w) × HoldsN s (now m) × Alive (numbersOf s (now m)) r ⌝ }
     requires { ⌜ Ready (Marks (now starts) (now adj)) s (floatsOf s (now w)) (numbersOf s (now m)) ⌝ }
-    ensures { λ z. ⌜ Tries (Marks (now (starts .entry)) (now (adj .entry))) s (floatsOf s (now (w .entry))) (numbersOf s (now (m .entry))) (floatsOf s (now (w .exit))) (numbersOf s (now (m .exit))) z (λ M u. definition.singletonInt M r (rowOf u r) v a blo bhi u) ⌝ }
+    ensures { λ z. ⌜ Tries (Marks (now (starts .entry)) (now (adj .entry))) s (floatsOf s (now (w .entry))) (numbersOf s (now (m .entry)))
+        (floatsOf s (now (w .exit))) (numbersOf s (now (m .exit))) z (λ M u. definition.singletonInt M r (rowOf u r) v a blo bhi u) ⌝ }
 {
     let x = readers::limits(w, s, r);
     let n = rows::written_terms(starts, r);
@@ -84,7 +86,8 @@ fn singleton_bounds(
 ) -> Step
     requires { ⌜ (r < s .rows) × (v < s .vars) × HoldsF s (now w) × HoldsN s (now m) × Alive (numbersOf s (now m)) r ⌝ }
     requires { ⌜ Ready (Moves (now domain) (now starts) (now adj)) s (floatsOf s (now w)) (numbersOf s (now m)) ⌝ }
-    ensures { λ z. ⌜ Tries (Moves (now (domain .entry)) (now (starts .entry)) (now (adj .entry))) s (floatsOf s (now (w .entry))) (numbersOf s (now (m .entry))) (floatsOf s (now (w .exit))) (numbersOf s (now (m .exit))) z (λ M u. definition.singletonBounds M r (rowOf u r) v a blo bhi u) ⌝ }
+    ensures { λ z. ⌜ Tries (Moves (now (domain .entry)) (now (starts .entry)) (now (adj .entry))) s (floatsOf s (now (w .entry))) (numbersOf s (now (m .entry)))
+        (floatsOf s (now (w .exit))) (numbersOf s (now (m .exit))) z (λ M u. definition.singletonBounds M r (rowOf u r) v a blo bhi u) ⌝ }
 {
     if readers::is_int(domain, s, v) {
         return singleton_int(starts, adj, w, m, s, r, v, a, blo, bhi);
@@ -123,7 +126,8 @@ fn singleton_drop(
     bhi: f64,
 )
     requires { ⌜ (r < s .rows) × (v < s .vars) × HoldsF s (now w) × HoldsN s (now m) × Alive (numbersOf s (now m)) r ⌝ }
-    ensures { λ _. ⌜ Acts Any s (floatsOf s (now (w .entry))) (numbersOf s (now (m .entry))) (floatsOf s (now (w .entry))) (numbersOf s (now (m .exit))) (λ M u. definition.singletonDrop M r (rowOf u r) v a blo bhi u) ⌝ }
+    ensures { λ _. ⌜ Acts Any s (floatsOf s (now (w .entry))) (numbersOf s (now (m .entry))) (floatsOf s (now (w .entry))) (numbersOf s (now (m .exit)))
+        (λ M u. definition.singletonDrop M r (rowOf u r) v a blo bhi u) ⌝ }
 {
     if row_implied(w, s, r, v, a, blo, bhi) {
         rows::drop_row(m, s, r);
@@ -143,7 +147,8 @@ pub fn singleton_row(
 ) -> Step
     requires { ⌜ (r < s .rows) × HoldsF s (now w) × HoldsN s (now m) × Alive (numbersOf s (now m)) r × (getD (numbersOf s (now m) .len) r 0 ≡ 1) ⌝ }
     requires { ⌜ Ready (Moves (now domain) (now starts) (now adj)) s (floatsOf s (now w)) (numbersOf s (now m)) ⌝ }
-    ensures { λ z. ⌜ Tries (Moves (now (domain .entry)) (now (starts .entry)) (now (adj .entry))) s (floatsOf s (now (w .entry))) (numbersOf s (now (m .entry))) (floatsOf s (now (w .exit))) (numbersOf s (now (m .exit))) z (λ M u. definition.singletonRow M r (rowOf u r) (getD (rowOf u r .terms) 0 noTerm) u) ⌝ }
+    ensures { λ z. ⌜ Tries (Moves (now (domain .entry)) (now (starts .entry)) (now (adj .entry))) s (floatsOf s (now (w .entry))) (numbersOf s (now (m .entry)))
+        (floatsOf s (now (w .exit))) (numbersOf s (now (m .exit))) z (λ M u. definition.singletonRow M r (rowOf u r) (getD (rowOf u r .terms) 0 noTerm) u) ⌝ }
 {
     let i = starts[r];
     let v = space::get_var(m, s, i);

@@ -8,7 +8,11 @@ use lib.ListN.{length, drop, getD, set, length-take, length-drop}
 use lib.Seq.{getD-take, getD-drop, getD-set-same, getD-set-other, drop-set-add, drop-set-lt, take-set-le, take-set-lt}
 use lib.Ieee.{Float, nan}
 use Rattle.space.specs.declared.Shape.{Shape}
-use Rattle.space.specs.Store.{blocks, start, nth, size, strand, strandsFrom, strands, putIn, fsizes, nsizes, toFloats, toNumbers, varStrands, rowStrands, markStrands, aliveStrands, floatsIn, numbersIn, floatsOf, numbersOf, HoldsF, HoldsN, put-wlo, put-whi, put-elo, put-ehi, put-lo, put-hi, put-foldScale, put-shift, put-written, put-rewritten, put-kept, put-bound, put-coeffs, put-queued, put-dropped, put-tightened, put-fixed, put-rewrote, put-passes, put-dirty, put-coeffDirty, put-queue, put-wave, put-len, put-folded, put-alive, put-touched, put-binaries, put-fate, put-slot, put-badDec, put-badInc, put-vars, put-binary}
+use Rattle.space.specs.Store.{blocks, start, nth, size, strand, strandsFrom, strands, putIn, fsizes, nsizes, toFloats, toNumbers, varStrands, rowStrands}
+use Rattle.space.specs.Store.{markStrands, aliveStrands, floatsIn, numbersIn, floatsOf, numbersOf, HoldsF, HoldsN, put-wlo, put-whi, put-elo, put-ehi}
+use Rattle.space.specs.Store.{put-lo, put-hi, put-foldScale, put-shift, put-written, put-rewritten, put-kept, put-bound, put-coeffs, put-queued}
+use Rattle.space.specs.Store.{put-dropped, put-tightened, put-fixed, put-rewrote, put-passes, put-dirty, put-coeffDirty, put-queue, put-wave, put-len}
+use Rattle.space.specs.Store.{put-folded, put-alive, put-touched, put-binaries, put-fate, put-slot, put-badDec, put-badInc, put-vars, put-binary}
 
 -- all blocks together
 unfoldable pub total : List ℕ → ℕ
@@ -84,7 +88,8 @@ module _ {A : Type 0} where
   from-kept d w j (suc m) n l i x k hk hw =
       rw (strand-kept d w j k n l i x (omega arith) (omega arith) (omega arith), from-kept d w (suc j) m n l i x k (omega arith) (omega arith))
 
-  from-put : (d : A) (w j m n : ℕ) (l : List A) (i : ℕ) (x : A) (k : ℕ) → k < m → j + m ≤ w → i < n → w * i + (j + k) < length l → strandsFrom d w j m n (set l (w * i + (j + k)) x) ≡ putIn k i x (strandsFrom d w j m n l)
+  from-put : (d : A) (w j m n : ℕ) (l : List A) (i : ℕ) (x : A) (k : ℕ) → k < m → j + m ≤ w → i < n → w * i + (j + k) < length l
+      → strandsFrom d w j m n (set l (w * i + (j + k)) x) ≡ putIn k i x (strandsFrom d w j m n l)
   unfolding strandsFrom putIn
   from-put d w j zero n l i x k hk hw hi hl = absurd (omega arith)
   from-put d w j (suc m) n l i x zero hk hw hi hl =
@@ -114,7 +119,9 @@ module _ {A : Type 0} where
     read-strand = ap (λ (q : ℕ). getD l q d) e ∙ read g ns l (w * i + k) d room ∙ strand-at d w k n (nth g (blocks ns l)) i h
 
     -- F is made of the strands and of the other blocks: it is the same whatever stands in block g
-    store-strand : {B : Type 0} (F : List (List A) → List (List A) → B) → ((v : List (List A)) (q : ℕ) (x : A) → F v (putIn g q x (blocks ns l)) ≡ F v (blocks ns l)) → (x : A) → k < w → total ns ≤ length l → F (strands d w n (nth g (blocks ns (set l p x)))) (blocks ns (set l p x)) ≡ F (putIn k i x (strands d w n (nth g (blocks ns l)))) (blocks ns l)
+    store-strand : {B : Type 0} (F : List (List A) → List (List A) → B)
+        → ((v : List (List A)) (q : ℕ) (x : A) → F v (putIn g q x (blocks ns l)) ≡ F v (blocks ns l)) → (x : A) → k < w → total ns ≤ length l
+        → F (strands d w n (nth g (blocks ns (set l p x)))) (blocks ns (set l p x)) ≡ F (putIn k i x (strands d w n (nth g (blocks ns l)))) (blocks ns l)
     store-strand F same x hk hl =
         let after : blocks ns (set l p x) ≡ putIn g (w * i + k) x (blocks ns l) = ap (λ (q : ℕ). blocks ns (set l q x)) e ∙ store g ns l (w * i + k) x room in
         let fits : w * i + k < length (nth g (blocks ns l)) = omega (arith, block-length g ns l hl) in
@@ -122,12 +129,14 @@ module _ {A : Type 0} where
 
 module _ (s : Shape) (l : List Float) (i : ℕ) where
   -- a store to number k of variable i, and of row i
-  variable-put : (k p : ℕ) (x : Float) → p ≡ 4 * i + k → k < 4 → i < s .vars → HoldsF s l → floatsOf s (set l p x) ≡ toFloats (putIn k i x (varStrands s (blocks (fsizes s) l))) (rowStrands s (blocks (fsizes s) l)) (blocks (fsizes s) l)
+  variable-put : (k p : ℕ) (x : Float) → p ≡ 4 * i + k → k < 4 → i < s .vars → HoldsF s l → floatsOf s (set l p x)
+      ≡ toFloats (putIn k i x (varStrands s (blocks (fsizes s) l))) (rowStrands s (blocks (fsizes s) l)) (blocks (fsizes s) l)
   unfolding floatsOf floatsIn toFloats fsizes blocks start nth size putIn total
   variable-put k p x e hk h hl =
       store-strand 0 (fsizes s) l nan 4 (s .vars) k i p (omega arith) (omega arith) h (λ (v b : List (List Float)). toFloats v (rowStrands s b) b) (λ v q y. refl) x hk (omega arith)
 
-  row-put : (k p : ℕ) (x : Float) → p ≡ 4 * s .vars + 4 * i + k → k < 4 → i < s .rows → HoldsF s l → floatsOf s (set l p x) ≡ toFloats (varStrands s (blocks (fsizes s) l)) (putIn k i x (rowStrands s (blocks (fsizes s) l))) (blocks (fsizes s) l)
+  row-put : (k p : ℕ) (x : Float) → p ≡ 4 * s .vars + 4 * i + k → k < 4 → i < s .rows → HoldsF s l → floatsOf s (set l p x)
+      ≡ toFloats (varStrands s (blocks (fsizes s) l)) (putIn k i x (rowStrands s (blocks (fsizes s) l))) (blocks (fsizes s) l)
   unfolding floatsOf floatsIn toFloats fsizes blocks start nth size putIn total
   row-put k p x e hk h hl =
       store-strand 1 (fsizes s) l nan 4 (s .rows) k i p (omega arith) (omega arith) h (λ (r b : List (List Float)). toFloats (varStrands s b) r b) (λ r q y. refl) x hk (omega arith)
@@ -311,12 +320,14 @@ module _ (s : Shape) (l : List Float) (h : HoldsF s l) where
 
 module _ (s : Shape) (l : List ℕ) (i : ℕ) where
   -- a store to mark k of row i, dirty or coeffDirty, and to its len or alive
-  mark-put : (k p x : ℕ) → p ≡ 6 + 2 * i + k → k < 2 → i < s .rows → HoldsN s l → numbersOf s (set l p x) ≡ toNumbers (putIn k i x (markStrands s (blocks (nsizes s) l))) (aliveStrands s (blocks (nsizes s) l)) (blocks (nsizes s) l)
+  mark-put : (k p x : ℕ) → p ≡ 6 + 2 * i + k → k < 2 → i < s .rows → HoldsN s l → numbersOf s (set l p x)
+      ≡ toNumbers (putIn k i x (markStrands s (blocks (nsizes s) l))) (aliveStrands s (blocks (nsizes s) l)) (blocks (nsizes s) l)
   unfolding numbersOf numbersIn toNumbers nsizes blocks start nth size putIn total
   mark-put k p x e hk h hl =
       store-strand 6 (nsizes s) l 0 2 (s .rows) k i p (omega arith) (omega arith) h (λ (m b : List (List ℕ)). toNumbers m (aliveStrands s b) b) (λ m q y. refl) x hk (omega arith)
 
-  len-or-alive-put : (k p x : ℕ) → p ≡ 6 + 4 * s .rows + 2 * i + k → k < 2 → i < s .rows → HoldsN s l → numbersOf s (set l p x) ≡ toNumbers (markStrands s (blocks (nsizes s) l)) (putIn k i x (aliveStrands s (blocks (nsizes s) l))) (blocks (nsizes s) l)
+  len-or-alive-put : (k p x : ℕ) → p ≡ 6 + 4 * s .rows + 2 * i + k → k < 2 → i < s .rows → HoldsN s l → numbersOf s (set l p x)
+      ≡ toNumbers (markStrands s (blocks (nsizes s) l)) (putIn k i x (aliveStrands s (blocks (nsizes s) l))) (blocks (nsizes s) l)
   unfolding numbersOf numbersIn toNumbers nsizes blocks start nth size putIn total
   len-or-alive-put k p x e hk h hl =
       store-strand 9 (nsizes s) l 0 2 (s .rows) k i p (omega arith) (omega arith) h (λ (a b : List (List ℕ)). toNumbers (markStrands s b) a b) (λ a q y. refl) x hk (omega arith)

@@ -53,7 +53,8 @@ fsizes s = (4 * s .vars) ∷ (4 * s .rows) ∷ (s .rows) ∷ (s .rows) ∷ (s .r
 -- blocks 0 to 5: the single numbers; 6: dirty, coeffDirty of each row; 7, 8: queue, wave; 9: len, alive of each row; 10 to 13: folded, touched,
 -- binaries, fate; 14 to 16: slot, badDec, badInc; 17, 18: vars, binary
 unfoldable pub nsizes : Shape → List ℕ
-nsizes s = (1) ∷ (1) ∷ (1) ∷ (1) ∷ (1) ∷ (1) ∷ (2 * s .rows) ∷ (s .rows) ∷ (s .rows) ∷ (2 * s .rows) ∷ (s .rows) ∷ (s .rows) ∷ (s .rows) ∷ (s .rows) ∷ (s .vars) ∷ (s .vars) ∷ (s .vars) ∷ (s .terms) ∷ (s .terms) ∷ []
+nsizes s = (1) ∷ (1) ∷ (1) ∷ (1) ∷ (1) ∷ (1) ∷ (2 * s .rows) ∷ (s .rows) ∷ (s .rows) ∷ (2 * s .rows) ∷ (s .rows) ∷ (s .rows) ∷ (s .rows) ∷ (s .rows) ∷ (s .vars)
+    ∷ (s .vars) ∷ (s .vars) ∷ (s .terms) ∷ (s .terms) ∷ []
 
 -- the bounds of variables, the numbers of rows, the coefficients of terms
 pub record Floats : Type 0 where
@@ -97,11 +98,47 @@ pub record Numbers : Type 0 where
 
 -- from the strands v of block 0 and r of block 1, and the blocks
 unfoldable pub toFloats : List (List Float) → List (List Float) → List (List Float) → Floats
-toFloats v r b = record { wlo = nth 0 v; whi = nth 1 v; elo = nth 2 v; ehi = nth 3 v; lo = nth 0 r; hi = nth 1 r; foldScale = nth 2 r; shift = nth 3 r; written = nth 2 b; rewritten = nth 3 b; kept = nth 4 b; bound = nth 5 b; coeffs = nth 6 b }
+toFloats v r b = record {
+  wlo = nth 0 v;
+  whi = nth 1 v;
+  elo = nth 2 v;
+  ehi = nth 3 v;
+  lo = nth 0 r;
+  hi = nth 1 r;
+  foldScale = nth 2 r;
+  shift = nth 3 r;
+  written = nth 2 b;
+  rewritten = nth 3 b;
+  kept = nth 4 b;
+  bound = nth 5 b;
+  coeffs = nth 6 b;
+}
 
 -- from the strands m of block 6 and a of block 9, and the blocks
 unfoldable pub toNumbers : List (List ℕ) → List (List ℕ) → List (List ℕ) → Numbers
-toNumbers m a b = record { queued = nth 0 b; dropped = nth 1 b; tightened = nth 2 b; fixed = nth 3 b; rewrote = nth 4 b; passes = nth 5 b; dirty = nth 0 m; coeffDirty = nth 1 m; queue = nth 7 b; wave = nth 8 b; len = nth 0 a; folded = nth 10 b; alive = nth 1 a; touched = nth 11 b; binaries = nth 12 b; fate = nth 13 b; slot = nth 14 b; badDec = nth 15 b; badInc = nth 16 b; vars = nth 17 b; binary = nth 18 b }
+toNumbers m a b = record {
+  queued = nth 0 b;
+  dropped = nth 1 b;
+  tightened = nth 2 b;
+  fixed = nth 3 b;
+  rewrote = nth 4 b;
+  passes = nth 5 b;
+  dirty = nth 0 m;
+  coeffDirty = nth 1 m;
+  queue = nth 7 b;
+  wave = nth 8 b;
+  len = nth 0 a;
+  folded = nth 10 b;
+  alive = nth 1 a;
+  touched = nth 11 b;
+  binaries = nth 12 b;
+  fate = nth 13 b;
+  slot = nth 14 b;
+  badDec = nth 15 b;
+  badInc = nth 16 b;
+  vars = nth 17 b;
+  binary = nth 18 b;
+}
 
 abbrev pub varStrands : Shape → List (List Float) → List (List Float)
 varStrands s b = strands nan 4 (s .vars) (nth 0 b)
@@ -128,106 +165,750 @@ unfoldable pub numbersOf : Shape → List ℕ → Numbers
 numbersOf s l = numbersIn s (blocks (nsizes s) l)
 
 abbrev pub put-wlo : ℕ → Float → Floats → Floats
-put-wlo i x f = record { wlo = set (f .wlo) i x; whi = f .whi; elo = f .elo; ehi = f .ehi; lo = f .lo; hi = f .hi; foldScale = f .foldScale; shift = f .shift; written = f .written; rewritten = f .rewritten; kept = f .kept; bound = f .bound; coeffs = f .coeffs }
+put-wlo i x f = record {
+  wlo = set (f .wlo) i x;
+  whi = f .whi;
+  elo = f .elo;
+  ehi = f .ehi;
+  lo = f .lo;
+  hi = f .hi;
+  foldScale = f .foldScale;
+  shift = f .shift;
+  written = f .written;
+  rewritten = f .rewritten;
+  kept = f .kept;
+  bound = f .bound;
+  coeffs = f .coeffs;
+}
 
 abbrev pub put-whi : ℕ → Float → Floats → Floats
-put-whi i x f = record { wlo = f .wlo; whi = set (f .whi) i x; elo = f .elo; ehi = f .ehi; lo = f .lo; hi = f .hi; foldScale = f .foldScale; shift = f .shift; written = f .written; rewritten = f .rewritten; kept = f .kept; bound = f .bound; coeffs = f .coeffs }
+put-whi i x f = record {
+  wlo = f .wlo;
+  whi = set (f .whi) i x;
+  elo = f .elo;
+  ehi = f .ehi;
+  lo = f .lo;
+  hi = f .hi;
+  foldScale = f .foldScale;
+  shift = f .shift;
+  written = f .written;
+  rewritten = f .rewritten;
+  kept = f .kept;
+  bound = f .bound;
+  coeffs = f .coeffs;
+}
 
 abbrev pub put-elo : ℕ → Float → Floats → Floats
-put-elo i x f = record { wlo = f .wlo; whi = f .whi; elo = set (f .elo) i x; ehi = f .ehi; lo = f .lo; hi = f .hi; foldScale = f .foldScale; shift = f .shift; written = f .written; rewritten = f .rewritten; kept = f .kept; bound = f .bound; coeffs = f .coeffs }
+put-elo i x f = record {
+  wlo = f .wlo;
+  whi = f .whi;
+  elo = set (f .elo) i x;
+  ehi = f .ehi;
+  lo = f .lo;
+  hi = f .hi;
+  foldScale = f .foldScale;
+  shift = f .shift;
+  written = f .written;
+  rewritten = f .rewritten;
+  kept = f .kept;
+  bound = f .bound;
+  coeffs = f .coeffs;
+}
 
 abbrev pub put-ehi : ℕ → Float → Floats → Floats
-put-ehi i x f = record { wlo = f .wlo; whi = f .whi; elo = f .elo; ehi = set (f .ehi) i x; lo = f .lo; hi = f .hi; foldScale = f .foldScale; shift = f .shift; written = f .written; rewritten = f .rewritten; kept = f .kept; bound = f .bound; coeffs = f .coeffs }
+put-ehi i x f = record {
+  wlo = f .wlo;
+  whi = f .whi;
+  elo = f .elo;
+  ehi = set (f .ehi) i x;
+  lo = f .lo;
+  hi = f .hi;
+  foldScale = f .foldScale;
+  shift = f .shift;
+  written = f .written;
+  rewritten = f .rewritten;
+  kept = f .kept;
+  bound = f .bound;
+  coeffs = f .coeffs;
+}
 
 abbrev pub put-lo : ℕ → Float → Floats → Floats
-put-lo i x f = record { wlo = f .wlo; whi = f .whi; elo = f .elo; ehi = f .ehi; lo = set (f .lo) i x; hi = f .hi; foldScale = f .foldScale; shift = f .shift; written = f .written; rewritten = f .rewritten; kept = f .kept; bound = f .bound; coeffs = f .coeffs }
+put-lo i x f = record {
+  wlo = f .wlo;
+  whi = f .whi;
+  elo = f .elo;
+  ehi = f .ehi;
+  lo = set (f .lo) i x;
+  hi = f .hi;
+  foldScale = f .foldScale;
+  shift = f .shift;
+  written = f .written;
+  rewritten = f .rewritten;
+  kept = f .kept;
+  bound = f .bound;
+  coeffs = f .coeffs;
+}
 
 abbrev pub put-hi : ℕ → Float → Floats → Floats
-put-hi i x f = record { wlo = f .wlo; whi = f .whi; elo = f .elo; ehi = f .ehi; lo = f .lo; hi = set (f .hi) i x; foldScale = f .foldScale; shift = f .shift; written = f .written; rewritten = f .rewritten; kept = f .kept; bound = f .bound; coeffs = f .coeffs }
+put-hi i x f = record {
+  wlo = f .wlo;
+  whi = f .whi;
+  elo = f .elo;
+  ehi = f .ehi;
+  lo = f .lo;
+  hi = set (f .hi) i x;
+  foldScale = f .foldScale;
+  shift = f .shift;
+  written = f .written;
+  rewritten = f .rewritten;
+  kept = f .kept;
+  bound = f .bound;
+  coeffs = f .coeffs;
+}
 
 abbrev pub put-foldScale : ℕ → Float → Floats → Floats
-put-foldScale i x f = record { wlo = f .wlo; whi = f .whi; elo = f .elo; ehi = f .ehi; lo = f .lo; hi = f .hi; foldScale = set (f .foldScale) i x; shift = f .shift; written = f .written; rewritten = f .rewritten; kept = f .kept; bound = f .bound; coeffs = f .coeffs }
+put-foldScale i x f = record {
+  wlo = f .wlo;
+  whi = f .whi;
+  elo = f .elo;
+  ehi = f .ehi;
+  lo = f .lo;
+  hi = f .hi;
+  foldScale = set (f .foldScale) i x;
+  shift = f .shift;
+  written = f .written;
+  rewritten = f .rewritten;
+  kept = f .kept;
+  bound = f .bound;
+  coeffs = f .coeffs;
+}
 
 abbrev pub put-shift : ℕ → Float → Floats → Floats
-put-shift i x f = record { wlo = f .wlo; whi = f .whi; elo = f .elo; ehi = f .ehi; lo = f .lo; hi = f .hi; foldScale = f .foldScale; shift = set (f .shift) i x; written = f .written; rewritten = f .rewritten; kept = f .kept; bound = f .bound; coeffs = f .coeffs }
+put-shift i x f = record {
+  wlo = f .wlo;
+  whi = f .whi;
+  elo = f .elo;
+  ehi = f .ehi;
+  lo = f .lo;
+  hi = f .hi;
+  foldScale = f .foldScale;
+  shift = set (f .shift) i x;
+  written = f .written;
+  rewritten = f .rewritten;
+  kept = f .kept;
+  bound = f .bound;
+  coeffs = f .coeffs;
+}
 
 abbrev pub put-written : ℕ → Float → Floats → Floats
-put-written i x f = record { wlo = f .wlo; whi = f .whi; elo = f .elo; ehi = f .ehi; lo = f .lo; hi = f .hi; foldScale = f .foldScale; shift = f .shift; written = set (f .written) i x; rewritten = f .rewritten; kept = f .kept; bound = f .bound; coeffs = f .coeffs }
+put-written i x f = record {
+  wlo = f .wlo;
+  whi = f .whi;
+  elo = f .elo;
+  ehi = f .ehi;
+  lo = f .lo;
+  hi = f .hi;
+  foldScale = f .foldScale;
+  shift = f .shift;
+  written = set (f .written) i x;
+  rewritten = f .rewritten;
+  kept = f .kept;
+  bound = f .bound;
+  coeffs = f .coeffs;
+}
 
 abbrev pub put-rewritten : ℕ → Float → Floats → Floats
-put-rewritten i x f = record { wlo = f .wlo; whi = f .whi; elo = f .elo; ehi = f .ehi; lo = f .lo; hi = f .hi; foldScale = f .foldScale; shift = f .shift; written = f .written; rewritten = set (f .rewritten) i x; kept = f .kept; bound = f .bound; coeffs = f .coeffs }
+put-rewritten i x f = record {
+  wlo = f .wlo;
+  whi = f .whi;
+  elo = f .elo;
+  ehi = f .ehi;
+  lo = f .lo;
+  hi = f .hi;
+  foldScale = f .foldScale;
+  shift = f .shift;
+  written = f .written;
+  rewritten = set (f .rewritten) i x;
+  kept = f .kept;
+  bound = f .bound;
+  coeffs = f .coeffs;
+}
 
 abbrev pub put-kept : ℕ → Float → Floats → Floats
-put-kept i x f = record { wlo = f .wlo; whi = f .whi; elo = f .elo; ehi = f .ehi; lo = f .lo; hi = f .hi; foldScale = f .foldScale; shift = f .shift; written = f .written; rewritten = f .rewritten; kept = set (f .kept) i x; bound = f .bound; coeffs = f .coeffs }
+put-kept i x f = record {
+  wlo = f .wlo;
+  whi = f .whi;
+  elo = f .elo;
+  ehi = f .ehi;
+  lo = f .lo;
+  hi = f .hi;
+  foldScale = f .foldScale;
+  shift = f .shift;
+  written = f .written;
+  rewritten = f .rewritten;
+  kept = set (f .kept) i x;
+  bound = f .bound;
+  coeffs = f .coeffs;
+}
 
 abbrev pub put-bound : ℕ → Float → Floats → Floats
-put-bound i x f = record { wlo = f .wlo; whi = f .whi; elo = f .elo; ehi = f .ehi; lo = f .lo; hi = f .hi; foldScale = f .foldScale; shift = f .shift; written = f .written; rewritten = f .rewritten; kept = f .kept; bound = set (f .bound) i x; coeffs = f .coeffs }
+put-bound i x f = record {
+  wlo = f .wlo;
+  whi = f .whi;
+  elo = f .elo;
+  ehi = f .ehi;
+  lo = f .lo;
+  hi = f .hi;
+  foldScale = f .foldScale;
+  shift = f .shift;
+  written = f .written;
+  rewritten = f .rewritten;
+  kept = f .kept;
+  bound = set (f .bound) i x;
+  coeffs = f .coeffs;
+}
 
 abbrev pub put-coeffs : ℕ → Float → Floats → Floats
-put-coeffs i x f = record { wlo = f .wlo; whi = f .whi; elo = f .elo; ehi = f .ehi; lo = f .lo; hi = f .hi; foldScale = f .foldScale; shift = f .shift; written = f .written; rewritten = f .rewritten; kept = f .kept; bound = f .bound; coeffs = set (f .coeffs) i x }
+put-coeffs i x f = record {
+  wlo = f .wlo;
+  whi = f .whi;
+  elo = f .elo;
+  ehi = f .ehi;
+  lo = f .lo;
+  hi = f .hi;
+  foldScale = f .foldScale;
+  shift = f .shift;
+  written = f .written;
+  rewritten = f .rewritten;
+  kept = f .kept;
+  bound = f .bound;
+  coeffs = set (f .coeffs) i x;
+}
 
 abbrev pub put-queued : ℕ → ℕ → Numbers → Numbers
-put-queued i x f = record { queued = set (f .queued) i x; dropped = f .dropped; tightened = f .tightened; fixed = f .fixed; rewrote = f .rewrote; passes = f .passes; dirty = f .dirty; coeffDirty = f .coeffDirty; queue = f .queue; wave = f .wave; len = f .len; folded = f .folded; alive = f .alive; touched = f .touched; binaries = f .binaries; fate = f .fate; slot = f .slot; badDec = f .badDec; badInc = f .badInc; vars = f .vars; binary = f .binary }
+put-queued i x f = record {
+  queued = set (f .queued) i x;
+  dropped = f .dropped;
+  tightened = f .tightened;
+  fixed = f .fixed;
+  rewrote = f .rewrote;
+  passes = f .passes;
+  dirty = f .dirty;
+  coeffDirty = f .coeffDirty;
+  queue = f .queue;
+  wave = f .wave;
+  len = f .len;
+  folded = f .folded;
+  alive = f .alive;
+  touched = f .touched;
+  binaries = f .binaries;
+  fate = f .fate;
+  slot = f .slot;
+  badDec = f .badDec;
+  badInc = f .badInc;
+  vars = f .vars;
+  binary = f .binary;
+}
 
 abbrev pub put-dropped : ℕ → ℕ → Numbers → Numbers
-put-dropped i x f = record { queued = f .queued; dropped = set (f .dropped) i x; tightened = f .tightened; fixed = f .fixed; rewrote = f .rewrote; passes = f .passes; dirty = f .dirty; coeffDirty = f .coeffDirty; queue = f .queue; wave = f .wave; len = f .len; folded = f .folded; alive = f .alive; touched = f .touched; binaries = f .binaries; fate = f .fate; slot = f .slot; badDec = f .badDec; badInc = f .badInc; vars = f .vars; binary = f .binary }
+put-dropped i x f = record {
+  queued = f .queued;
+  dropped = set (f .dropped) i x;
+  tightened = f .tightened;
+  fixed = f .fixed;
+  rewrote = f .rewrote;
+  passes = f .passes;
+  dirty = f .dirty;
+  coeffDirty = f .coeffDirty;
+  queue = f .queue;
+  wave = f .wave;
+  len = f .len;
+  folded = f .folded;
+  alive = f .alive;
+  touched = f .touched;
+  binaries = f .binaries;
+  fate = f .fate;
+  slot = f .slot;
+  badDec = f .badDec;
+  badInc = f .badInc;
+  vars = f .vars;
+  binary = f .binary;
+}
 
 abbrev pub put-tightened : ℕ → ℕ → Numbers → Numbers
-put-tightened i x f = record { queued = f .queued; dropped = f .dropped; tightened = set (f .tightened) i x; fixed = f .fixed; rewrote = f .rewrote; passes = f .passes; dirty = f .dirty; coeffDirty = f .coeffDirty; queue = f .queue; wave = f .wave; len = f .len; folded = f .folded; alive = f .alive; touched = f .touched; binaries = f .binaries; fate = f .fate; slot = f .slot; badDec = f .badDec; badInc = f .badInc; vars = f .vars; binary = f .binary }
+put-tightened i x f = record {
+  queued = f .queued;
+  dropped = f .dropped;
+  tightened = set (f .tightened) i x;
+  fixed = f .fixed;
+  rewrote = f .rewrote;
+  passes = f .passes;
+  dirty = f .dirty;
+  coeffDirty = f .coeffDirty;
+  queue = f .queue;
+  wave = f .wave;
+  len = f .len;
+  folded = f .folded;
+  alive = f .alive;
+  touched = f .touched;
+  binaries = f .binaries;
+  fate = f .fate;
+  slot = f .slot;
+  badDec = f .badDec;
+  badInc = f .badInc;
+  vars = f .vars;
+  binary = f .binary;
+}
 
 abbrev pub put-fixed : ℕ → ℕ → Numbers → Numbers
-put-fixed i x f = record { queued = f .queued; dropped = f .dropped; tightened = f .tightened; fixed = set (f .fixed) i x; rewrote = f .rewrote; passes = f .passes; dirty = f .dirty; coeffDirty = f .coeffDirty; queue = f .queue; wave = f .wave; len = f .len; folded = f .folded; alive = f .alive; touched = f .touched; binaries = f .binaries; fate = f .fate; slot = f .slot; badDec = f .badDec; badInc = f .badInc; vars = f .vars; binary = f .binary }
+put-fixed i x f = record {
+  queued = f .queued;
+  dropped = f .dropped;
+  tightened = f .tightened;
+  fixed = set (f .fixed) i x;
+  rewrote = f .rewrote;
+  passes = f .passes;
+  dirty = f .dirty;
+  coeffDirty = f .coeffDirty;
+  queue = f .queue;
+  wave = f .wave;
+  len = f .len;
+  folded = f .folded;
+  alive = f .alive;
+  touched = f .touched;
+  binaries = f .binaries;
+  fate = f .fate;
+  slot = f .slot;
+  badDec = f .badDec;
+  badInc = f .badInc;
+  vars = f .vars;
+  binary = f .binary;
+}
 
 abbrev pub put-rewrote : ℕ → ℕ → Numbers → Numbers
-put-rewrote i x f = record { queued = f .queued; dropped = f .dropped; tightened = f .tightened; fixed = f .fixed; rewrote = set (f .rewrote) i x; passes = f .passes; dirty = f .dirty; coeffDirty = f .coeffDirty; queue = f .queue; wave = f .wave; len = f .len; folded = f .folded; alive = f .alive; touched = f .touched; binaries = f .binaries; fate = f .fate; slot = f .slot; badDec = f .badDec; badInc = f .badInc; vars = f .vars; binary = f .binary }
+put-rewrote i x f = record {
+  queued = f .queued;
+  dropped = f .dropped;
+  tightened = f .tightened;
+  fixed = f .fixed;
+  rewrote = set (f .rewrote) i x;
+  passes = f .passes;
+  dirty = f .dirty;
+  coeffDirty = f .coeffDirty;
+  queue = f .queue;
+  wave = f .wave;
+  len = f .len;
+  folded = f .folded;
+  alive = f .alive;
+  touched = f .touched;
+  binaries = f .binaries;
+  fate = f .fate;
+  slot = f .slot;
+  badDec = f .badDec;
+  badInc = f .badInc;
+  vars = f .vars;
+  binary = f .binary;
+}
 
 abbrev pub put-passes : ℕ → ℕ → Numbers → Numbers
-put-passes i x f = record { queued = f .queued; dropped = f .dropped; tightened = f .tightened; fixed = f .fixed; rewrote = f .rewrote; passes = set (f .passes) i x; dirty = f .dirty; coeffDirty = f .coeffDirty; queue = f .queue; wave = f .wave; len = f .len; folded = f .folded; alive = f .alive; touched = f .touched; binaries = f .binaries; fate = f .fate; slot = f .slot; badDec = f .badDec; badInc = f .badInc; vars = f .vars; binary = f .binary }
+put-passes i x f = record {
+  queued = f .queued;
+  dropped = f .dropped;
+  tightened = f .tightened;
+  fixed = f .fixed;
+  rewrote = f .rewrote;
+  passes = set (f .passes) i x;
+  dirty = f .dirty;
+  coeffDirty = f .coeffDirty;
+  queue = f .queue;
+  wave = f .wave;
+  len = f .len;
+  folded = f .folded;
+  alive = f .alive;
+  touched = f .touched;
+  binaries = f .binaries;
+  fate = f .fate;
+  slot = f .slot;
+  badDec = f .badDec;
+  badInc = f .badInc;
+  vars = f .vars;
+  binary = f .binary;
+}
 
 abbrev pub put-dirty : ℕ → ℕ → Numbers → Numbers
-put-dirty i x f = record { queued = f .queued; dropped = f .dropped; tightened = f .tightened; fixed = f .fixed; rewrote = f .rewrote; passes = f .passes; dirty = set (f .dirty) i x; coeffDirty = f .coeffDirty; queue = f .queue; wave = f .wave; len = f .len; folded = f .folded; alive = f .alive; touched = f .touched; binaries = f .binaries; fate = f .fate; slot = f .slot; badDec = f .badDec; badInc = f .badInc; vars = f .vars; binary = f .binary }
+put-dirty i x f = record {
+  queued = f .queued;
+  dropped = f .dropped;
+  tightened = f .tightened;
+  fixed = f .fixed;
+  rewrote = f .rewrote;
+  passes = f .passes;
+  dirty = set (f .dirty) i x;
+  coeffDirty = f .coeffDirty;
+  queue = f .queue;
+  wave = f .wave;
+  len = f .len;
+  folded = f .folded;
+  alive = f .alive;
+  touched = f .touched;
+  binaries = f .binaries;
+  fate = f .fate;
+  slot = f .slot;
+  badDec = f .badDec;
+  badInc = f .badInc;
+  vars = f .vars;
+  binary = f .binary;
+}
 
 abbrev pub put-coeffDirty : ℕ → ℕ → Numbers → Numbers
-put-coeffDirty i x f = record { queued = f .queued; dropped = f .dropped; tightened = f .tightened; fixed = f .fixed; rewrote = f .rewrote; passes = f .passes; dirty = f .dirty; coeffDirty = set (f .coeffDirty) i x; queue = f .queue; wave = f .wave; len = f .len; folded = f .folded; alive = f .alive; touched = f .touched; binaries = f .binaries; fate = f .fate; slot = f .slot; badDec = f .badDec; badInc = f .badInc; vars = f .vars; binary = f .binary }
+put-coeffDirty i x f = record {
+  queued = f .queued;
+  dropped = f .dropped;
+  tightened = f .tightened;
+  fixed = f .fixed;
+  rewrote = f .rewrote;
+  passes = f .passes;
+  dirty = f .dirty;
+  coeffDirty = set (f .coeffDirty) i x;
+  queue = f .queue;
+  wave = f .wave;
+  len = f .len;
+  folded = f .folded;
+  alive = f .alive;
+  touched = f .touched;
+  binaries = f .binaries;
+  fate = f .fate;
+  slot = f .slot;
+  badDec = f .badDec;
+  badInc = f .badInc;
+  vars = f .vars;
+  binary = f .binary;
+}
 
 abbrev pub put-queue : ℕ → ℕ → Numbers → Numbers
-put-queue i x f = record { queued = f .queued; dropped = f .dropped; tightened = f .tightened; fixed = f .fixed; rewrote = f .rewrote; passes = f .passes; dirty = f .dirty; coeffDirty = f .coeffDirty; queue = set (f .queue) i x; wave = f .wave; len = f .len; folded = f .folded; alive = f .alive; touched = f .touched; binaries = f .binaries; fate = f .fate; slot = f .slot; badDec = f .badDec; badInc = f .badInc; vars = f .vars; binary = f .binary }
+put-queue i x f = record {
+  queued = f .queued;
+  dropped = f .dropped;
+  tightened = f .tightened;
+  fixed = f .fixed;
+  rewrote = f .rewrote;
+  passes = f .passes;
+  dirty = f .dirty;
+  coeffDirty = f .coeffDirty;
+  queue = set (f .queue) i x;
+  wave = f .wave;
+  len = f .len;
+  folded = f .folded;
+  alive = f .alive;
+  touched = f .touched;
+  binaries = f .binaries;
+  fate = f .fate;
+  slot = f .slot;
+  badDec = f .badDec;
+  badInc = f .badInc;
+  vars = f .vars;
+  binary = f .binary;
+}
 
 abbrev pub put-wave : ℕ → ℕ → Numbers → Numbers
-put-wave i x f = record { queued = f .queued; dropped = f .dropped; tightened = f .tightened; fixed = f .fixed; rewrote = f .rewrote; passes = f .passes; dirty = f .dirty; coeffDirty = f .coeffDirty; queue = f .queue; wave = set (f .wave) i x; len = f .len; folded = f .folded; alive = f .alive; touched = f .touched; binaries = f .binaries; fate = f .fate; slot = f .slot; badDec = f .badDec; badInc = f .badInc; vars = f .vars; binary = f .binary }
+put-wave i x f = record {
+  queued = f .queued;
+  dropped = f .dropped;
+  tightened = f .tightened;
+  fixed = f .fixed;
+  rewrote = f .rewrote;
+  passes = f .passes;
+  dirty = f .dirty;
+  coeffDirty = f .coeffDirty;
+  queue = f .queue;
+  wave = set (f .wave) i x;
+  len = f .len;
+  folded = f .folded;
+  alive = f .alive;
+  touched = f .touched;
+  binaries = f .binaries;
+  fate = f .fate;
+  slot = f .slot;
+  badDec = f .badDec;
+  badInc = f .badInc;
+  vars = f .vars;
+  binary = f .binary;
+}
 
 abbrev pub put-len : ℕ → ℕ → Numbers → Numbers
-put-len i x f = record { queued = f .queued; dropped = f .dropped; tightened = f .tightened; fixed = f .fixed; rewrote = f .rewrote; passes = f .passes; dirty = f .dirty; coeffDirty = f .coeffDirty; queue = f .queue; wave = f .wave; len = set (f .len) i x; folded = f .folded; alive = f .alive; touched = f .touched; binaries = f .binaries; fate = f .fate; slot = f .slot; badDec = f .badDec; badInc = f .badInc; vars = f .vars; binary = f .binary }
+put-len i x f = record {
+  queued = f .queued;
+  dropped = f .dropped;
+  tightened = f .tightened;
+  fixed = f .fixed;
+  rewrote = f .rewrote;
+  passes = f .passes;
+  dirty = f .dirty;
+  coeffDirty = f .coeffDirty;
+  queue = f .queue;
+  wave = f .wave;
+  len = set (f .len) i x;
+  folded = f .folded;
+  alive = f .alive;
+  touched = f .touched;
+  binaries = f .binaries;
+  fate = f .fate;
+  slot = f .slot;
+  badDec = f .badDec;
+  badInc = f .badInc;
+  vars = f .vars;
+  binary = f .binary;
+}
 
 abbrev pub put-folded : ℕ → ℕ → Numbers → Numbers
-put-folded i x f = record { queued = f .queued; dropped = f .dropped; tightened = f .tightened; fixed = f .fixed; rewrote = f .rewrote; passes = f .passes; dirty = f .dirty; coeffDirty = f .coeffDirty; queue = f .queue; wave = f .wave; len = f .len; folded = set (f .folded) i x; alive = f .alive; touched = f .touched; binaries = f .binaries; fate = f .fate; slot = f .slot; badDec = f .badDec; badInc = f .badInc; vars = f .vars; binary = f .binary }
+put-folded i x f = record {
+  queued = f .queued;
+  dropped = f .dropped;
+  tightened = f .tightened;
+  fixed = f .fixed;
+  rewrote = f .rewrote;
+  passes = f .passes;
+  dirty = f .dirty;
+  coeffDirty = f .coeffDirty;
+  queue = f .queue;
+  wave = f .wave;
+  len = f .len;
+  folded = set (f .folded) i x;
+  alive = f .alive;
+  touched = f .touched;
+  binaries = f .binaries;
+  fate = f .fate;
+  slot = f .slot;
+  badDec = f .badDec;
+  badInc = f .badInc;
+  vars = f .vars;
+  binary = f .binary;
+}
 
 abbrev pub put-alive : ℕ → ℕ → Numbers → Numbers
-put-alive i x f = record { queued = f .queued; dropped = f .dropped; tightened = f .tightened; fixed = f .fixed; rewrote = f .rewrote; passes = f .passes; dirty = f .dirty; coeffDirty = f .coeffDirty; queue = f .queue; wave = f .wave; len = f .len; folded = f .folded; alive = set (f .alive) i x; touched = f .touched; binaries = f .binaries; fate = f .fate; slot = f .slot; badDec = f .badDec; badInc = f .badInc; vars = f .vars; binary = f .binary }
+put-alive i x f = record {
+  queued = f .queued;
+  dropped = f .dropped;
+  tightened = f .tightened;
+  fixed = f .fixed;
+  rewrote = f .rewrote;
+  passes = f .passes;
+  dirty = f .dirty;
+  coeffDirty = f .coeffDirty;
+  queue = f .queue;
+  wave = f .wave;
+  len = f .len;
+  folded = f .folded;
+  alive = set (f .alive) i x;
+  touched = f .touched;
+  binaries = f .binaries;
+  fate = f .fate;
+  slot = f .slot;
+  badDec = f .badDec;
+  badInc = f .badInc;
+  vars = f .vars;
+  binary = f .binary;
+}
 
 abbrev pub put-touched : ℕ → ℕ → Numbers → Numbers
-put-touched i x f = record { queued = f .queued; dropped = f .dropped; tightened = f .tightened; fixed = f .fixed; rewrote = f .rewrote; passes = f .passes; dirty = f .dirty; coeffDirty = f .coeffDirty; queue = f .queue; wave = f .wave; len = f .len; folded = f .folded; alive = f .alive; touched = set (f .touched) i x; binaries = f .binaries; fate = f .fate; slot = f .slot; badDec = f .badDec; badInc = f .badInc; vars = f .vars; binary = f .binary }
+put-touched i x f = record {
+  queued = f .queued;
+  dropped = f .dropped;
+  tightened = f .tightened;
+  fixed = f .fixed;
+  rewrote = f .rewrote;
+  passes = f .passes;
+  dirty = f .dirty;
+  coeffDirty = f .coeffDirty;
+  queue = f .queue;
+  wave = f .wave;
+  len = f .len;
+  folded = f .folded;
+  alive = f .alive;
+  touched = set (f .touched) i x;
+  binaries = f .binaries;
+  fate = f .fate;
+  slot = f .slot;
+  badDec = f .badDec;
+  badInc = f .badInc;
+  vars = f .vars;
+  binary = f .binary;
+}
 
 abbrev pub put-binaries : ℕ → ℕ → Numbers → Numbers
-put-binaries i x f = record { queued = f .queued; dropped = f .dropped; tightened = f .tightened; fixed = f .fixed; rewrote = f .rewrote; passes = f .passes; dirty = f .dirty; coeffDirty = f .coeffDirty; queue = f .queue; wave = f .wave; len = f .len; folded = f .folded; alive = f .alive; touched = f .touched; binaries = set (f .binaries) i x; fate = f .fate; slot = f .slot; badDec = f .badDec; badInc = f .badInc; vars = f .vars; binary = f .binary }
+put-binaries i x f = record {
+  queued = f .queued;
+  dropped = f .dropped;
+  tightened = f .tightened;
+  fixed = f .fixed;
+  rewrote = f .rewrote;
+  passes = f .passes;
+  dirty = f .dirty;
+  coeffDirty = f .coeffDirty;
+  queue = f .queue;
+  wave = f .wave;
+  len = f .len;
+  folded = f .folded;
+  alive = f .alive;
+  touched = f .touched;
+  binaries = set (f .binaries) i x;
+  fate = f .fate;
+  slot = f .slot;
+  badDec = f .badDec;
+  badInc = f .badInc;
+  vars = f .vars;
+  binary = f .binary;
+}
 
 abbrev pub put-fate : ℕ → ℕ → Numbers → Numbers
-put-fate i x f = record { queued = f .queued; dropped = f .dropped; tightened = f .tightened; fixed = f .fixed; rewrote = f .rewrote; passes = f .passes; dirty = f .dirty; coeffDirty = f .coeffDirty; queue = f .queue; wave = f .wave; len = f .len; folded = f .folded; alive = f .alive; touched = f .touched; binaries = f .binaries; fate = set (f .fate) i x; slot = f .slot; badDec = f .badDec; badInc = f .badInc; vars = f .vars; binary = f .binary }
+put-fate i x f = record {
+  queued = f .queued;
+  dropped = f .dropped;
+  tightened = f .tightened;
+  fixed = f .fixed;
+  rewrote = f .rewrote;
+  passes = f .passes;
+  dirty = f .dirty;
+  coeffDirty = f .coeffDirty;
+  queue = f .queue;
+  wave = f .wave;
+  len = f .len;
+  folded = f .folded;
+  alive = f .alive;
+  touched = f .touched;
+  binaries = f .binaries;
+  fate = set (f .fate) i x;
+  slot = f .slot;
+  badDec = f .badDec;
+  badInc = f .badInc;
+  vars = f .vars;
+  binary = f .binary;
+}
 
 abbrev pub put-slot : ℕ → ℕ → Numbers → Numbers
-put-slot i x f = record { queued = f .queued; dropped = f .dropped; tightened = f .tightened; fixed = f .fixed; rewrote = f .rewrote; passes = f .passes; dirty = f .dirty; coeffDirty = f .coeffDirty; queue = f .queue; wave = f .wave; len = f .len; folded = f .folded; alive = f .alive; touched = f .touched; binaries = f .binaries; fate = f .fate; slot = set (f .slot) i x; badDec = f .badDec; badInc = f .badInc; vars = f .vars; binary = f .binary }
+put-slot i x f = record {
+  queued = f .queued;
+  dropped = f .dropped;
+  tightened = f .tightened;
+  fixed = f .fixed;
+  rewrote = f .rewrote;
+  passes = f .passes;
+  dirty = f .dirty;
+  coeffDirty = f .coeffDirty;
+  queue = f .queue;
+  wave = f .wave;
+  len = f .len;
+  folded = f .folded;
+  alive = f .alive;
+  touched = f .touched;
+  binaries = f .binaries;
+  fate = f .fate;
+  slot = set (f .slot) i x;
+  badDec = f .badDec;
+  badInc = f .badInc;
+  vars = f .vars;
+  binary = f .binary;
+}
 
 abbrev pub put-badDec : ℕ → ℕ → Numbers → Numbers
-put-badDec i x f = record { queued = f .queued; dropped = f .dropped; tightened = f .tightened; fixed = f .fixed; rewrote = f .rewrote; passes = f .passes; dirty = f .dirty; coeffDirty = f .coeffDirty; queue = f .queue; wave = f .wave; len = f .len; folded = f .folded; alive = f .alive; touched = f .touched; binaries = f .binaries; fate = f .fate; slot = f .slot; badDec = set (f .badDec) i x; badInc = f .badInc; vars = f .vars; binary = f .binary }
+put-badDec i x f = record {
+  queued = f .queued;
+  dropped = f .dropped;
+  tightened = f .tightened;
+  fixed = f .fixed;
+  rewrote = f .rewrote;
+  passes = f .passes;
+  dirty = f .dirty;
+  coeffDirty = f .coeffDirty;
+  queue = f .queue;
+  wave = f .wave;
+  len = f .len;
+  folded = f .folded;
+  alive = f .alive;
+  touched = f .touched;
+  binaries = f .binaries;
+  fate = f .fate;
+  slot = f .slot;
+  badDec = set (f .badDec) i x;
+  badInc = f .badInc;
+  vars = f .vars;
+  binary = f .binary;
+}
 
 abbrev pub put-badInc : ℕ → ℕ → Numbers → Numbers
-put-badInc i x f = record { queued = f .queued; dropped = f .dropped; tightened = f .tightened; fixed = f .fixed; rewrote = f .rewrote; passes = f .passes; dirty = f .dirty; coeffDirty = f .coeffDirty; queue = f .queue; wave = f .wave; len = f .len; folded = f .folded; alive = f .alive; touched = f .touched; binaries = f .binaries; fate = f .fate; slot = f .slot; badDec = f .badDec; badInc = set (f .badInc) i x; vars = f .vars; binary = f .binary }
+put-badInc i x f = record {
+  queued = f .queued;
+  dropped = f .dropped;
+  tightened = f .tightened;
+  fixed = f .fixed;
+  rewrote = f .rewrote;
+  passes = f .passes;
+  dirty = f .dirty;
+  coeffDirty = f .coeffDirty;
+  queue = f .queue;
+  wave = f .wave;
+  len = f .len;
+  folded = f .folded;
+  alive = f .alive;
+  touched = f .touched;
+  binaries = f .binaries;
+  fate = f .fate;
+  slot = f .slot;
+  badDec = f .badDec;
+  badInc = set (f .badInc) i x;
+  vars = f .vars;
+  binary = f .binary;
+}
 
 abbrev pub put-vars : ℕ → ℕ → Numbers → Numbers
-put-vars i x f = record { queued = f .queued; dropped = f .dropped; tightened = f .tightened; fixed = f .fixed; rewrote = f .rewrote; passes = f .passes; dirty = f .dirty; coeffDirty = f .coeffDirty; queue = f .queue; wave = f .wave; len = f .len; folded = f .folded; alive = f .alive; touched = f .touched; binaries = f .binaries; fate = f .fate; slot = f .slot; badDec = f .badDec; badInc = f .badInc; vars = set (f .vars) i x; binary = f .binary }
+put-vars i x f = record {
+  queued = f .queued;
+  dropped = f .dropped;
+  tightened = f .tightened;
+  fixed = f .fixed;
+  rewrote = f .rewrote;
+  passes = f .passes;
+  dirty = f .dirty;
+  coeffDirty = f .coeffDirty;
+  queue = f .queue;
+  wave = f .wave;
+  len = f .len;
+  folded = f .folded;
+  alive = f .alive;
+  touched = f .touched;
+  binaries = f .binaries;
+  fate = f .fate;
+  slot = f .slot;
+  badDec = f .badDec;
+  badInc = f .badInc;
+  vars = set (f .vars) i x;
+  binary = f .binary;
+}
 
 abbrev pub put-binary : ℕ → ℕ → Numbers → Numbers
-put-binary i x f = record { queued = f .queued; dropped = f .dropped; tightened = f .tightened; fixed = f .fixed; rewrote = f .rewrote; passes = f .passes; dirty = f .dirty; coeffDirty = f .coeffDirty; queue = f .queue; wave = f .wave; len = f .len; folded = f .folded; alive = f .alive; touched = f .touched; binaries = f .binaries; fate = f .fate; slot = f .slot; badDec = f .badDec; badInc = f .badInc; vars = f .vars; binary = set (f .binary) i x }
+put-binary i x f = record {
+  queued = f .queued;
+  dropped = f .dropped;
+  tightened = f .tightened;
+  fixed = f .fixed;
+  rewrote = f .rewrote;
+  passes = f .passes;
+  dirty = f .dirty;
+  coeffDirty = f .coeffDirty;
+  queue = f .queue;
+  wave = f .wave;
+  len = f .len;
+  folded = f .folded;
+  alive = f .alive;
+  touched = f .touched;
+  binaries = f .binaries;
+  fate = f .fate;
+  slot = f .slot;
+  badDec = f .badDec;
+  badInc = f .badInc;
+  vars = f .vars;
+  binary = set (f .binary) i x;
+}
 
 -- the slices are long enough
 abbrev pub HoldsF : Shape → List Float → Type 0

@@ -1,4 +1,6 @@
-// The working floats: one function to read and one to write each. A variable's four bounds stand side by side, as do a row's lo, hi, foldScale and shift.
+// The working floats: one function to read and one to write each, by the names of the fields in
+// src/presolve/work.rs and model.rs of microlp 0.7.0, changed.
+// A variable's four bounds stand side by side, as do a row's lo, hi, foldScale and shift.
 ghost use mathlib.Core.Path.{_≡_};
 ghost use Prim.Native.Nat.{_+_, _*_, _<_};
 ghost use lib.ListN.{getD};

@@ -1,4 +1,6 @@
-// The working space of presolve: two lent slices, one of floats and one of numbers, cut into blocks.
+// The working space of presolve: two lent slices, one of floats and one of numbers, cut into blocks,
+// one for each field of `Work`, `Row` and `Binding` of src/presolve/work.rs and model.rs of microlp
+// 0.7.0, changed: flat lists for vectors.
 // docs/WORKSPACE.md has the layout. Every function here reads or writes one number.
 mod floats_at;
 mod numbers_at;

@@ -1,8 +1,12 @@
-// The working numbers: one function to read and one to write each, and the counts. A row's two marks stand side by side, as do its len and alive.
+// The working numbers: one function to read and one to write each, by the names of the fields in
+// src/presolve/work.rs and model.rs of microlp 0.7.0, changed, and the counts.
+// A row's two marks stand side by side, as do its len and alive.
 ghost use mathlib.Core.Path.{_≡_};
 ghost use Prim.Native.Nat.{_+_, _*_, _%_, _^_, _<_};
 ghost use lib.ListN.{getD};
-ghost use Rattle.space.specs.Store.{numbersOf, HoldsN, put-queued, put-dropped, put-tightened, put-fixed, put-rewrote, put-passes, put-dirty, put-coeffDirty, put-queue, put-wave, put-len, put-folded, put-alive, put-touched, put-binaries, put-fate, put-slot, put-badDec, put-badInc, put-vars, put-binary};
+ghost use Rattle.space.specs.Store.{numbersOf, HoldsN, put-queued, put-dropped, put-tightened, put-fixed, put-rewrote, put-passes};
+ghost use Rattle.space.specs.Store.{put-dirty, put-coeffDirty, put-queue, put-wave, put-len, put-folded, put-alive, put-touched};
+ghost use Rattle.space.specs.Store.{put-binaries, put-fate, put-slot, put-badDec, put-badInc, put-vars, put-binary};
 use crate::Shape;
 
 // How many rows are queued for the next wave.

@@ -18,7 +18,8 @@ use Rattle.definition.specs.Forcing.{fixAll}
 use Rattle.definition.specs.Implied.{implied, impliedTerm, impliedBounds}
 use Rattle.definition.specs.Dual.{dualVar, dualFrom, dualFix}
 use Rattle.definition.specs.Rounds.{dualStep}
-use Rattle.definition.specs.RowsKept.Choices.{both, taking, Each, stopped, went, then}
+use Rattle.definition.specs.Choices.{both, taking}
+use Rattle.rows_kept.specs.Steps.{Each, stopped, went, then}
 use Rattle.tally.specs.Tallied.{Tallied, tightens-one, fixes-one, recount, more, queue-one}
 
 module _ (M : Model) {n k : ℕ} where
@@ -88,7 +89,8 @@ module _ (M : Model) {n k : ℕ} where
   lower-one {b} v q relax w p =
       both (Each (Tallied n k (suc b))) _ (both (Each (Tallied n k (suc b))) _ (lower-int v _ w p) (lower-real v _ w p)) (went (more (omega arith) p))
 
-  implied-one : {b : ℕ} (upper : Bool) (r : ℕ) (row : Row) (x m s c : Float) (t : Term) (o : Option Float) (w : Work) → Tallied n k b w → Each (Tallied n k (suc b)) (implied M upper r row x m s c t o w)
+  implied-one : {b : ℕ} (upper : Bool) (r : ℕ) (row : Row) (x m s c : Float) (t : Term) (o : Option Float) (w : Work) → Tallied n k b w
+      → Each (Tallied n k (suc b)) (implied M upper r row x m s c t o w)
   unfolding implied
   implied-one upper r row x m s c t none w p = went (more (omega arith) p)
   implied-one {b} upper r row x m s c t (some rest) w p = both (Each (Tallied n k (suc b))) _ (upper-one (t .var) _ _ w p) (lower-one (t .var) _ _ w p)

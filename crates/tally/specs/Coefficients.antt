@@ -11,9 +11,9 @@ use Rattle.definition.specs.Work.{Work, noRow}
 use Rattle.definition.specs.Activities.{activity}
 use Rattle.definition.specs.Rewrites.{Form, leForm, geForm, noForm, formOf, vacuousRoom}
 use Rattle.definition.specs.Tighten.{Rewriting, queued, rewriteStep, rewriteLoop, tightenForm, tightenBy, tightenRow, tightenFrom, tightenBinaryCoeffs}
-use Rattle.definition.specs.RowsKept.Choices.{both, taking}
-use Rattle.definition.specs.RowsKept.Kept.{Sided, le, ge, tightened}
-use Rattle.definition.specs.RowsKept.RowSteps.{changed-kept}
+use Rattle.definition.specs.Choices.{both, taking}
+use Rattle.rows_kept.specs.Kept.{Sided, le, ge, tightened}
+use Rattle.rows_kept.specs.RowSteps.{changed-kept}
 use Rattle.tally.specs.Tallied.{Short, Tallied, rewrites-one, recount, more, queue-one, change-one}
 use Rattle.tally.specs.Rows.{AllShort, short-kept}
 

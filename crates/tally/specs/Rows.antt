@@ -14,10 +14,11 @@ use Rattle.definition.specs.Singles.{emptyRowCheck, singletonDrop, singletonRow
 use Rattle.definition.specs.Forcing.{fixAll}
 use Rattle.definition.specs.Wave.{severalTerms, byCount, waveRow, waveRows, wave, waves}
 use Rattle.definition.specs.Tighten.{setCoeff}
-use Rattle.definition.specs.RowsKept.Choices.{both, Each, stopped, went, then}
-use Rattle.definition.specs.RowsKept.Kept.{folded}
-use Rattle.definition.specs.RowsKept.RowSteps.{RowKept, length-swap, changed-kept}
-use Rattle.definition.specs.RowsKept.Sizes.{written-short}
+use Rattle.definition.specs.Choices.{both}
+use Rattle.rows_kept.specs.Steps.{Each, stopped, went, then}
+use Rattle.rows_kept.specs.Kept.{folded}
+use Rattle.rows_kept.specs.RowSteps.{RowKept, length-swap, changed-kept}
+use Rattle.rows_kept.specs.Sizes.{written-short}
 use Rattle.tally.specs.Tallied.{Short, Tallied, drops-one, recount, more, fewer, each-more, begin-wave, queue-fits, take-one, change-one}
 use Rattle.tally.specs.Bounds.{implied-all, singleton-one, fix-all}
 

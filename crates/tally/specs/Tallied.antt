@@ -8,8 +8,8 @@ use lib.ListN.{length, getD, set, length-set, length-append}
 use Rattle.definition.specs.declared.Counts.{Counts}
 use Rattle.definition.specs.Model.{Row, dropped, tightened, fixedOne, rewrote, passed}
 use Rattle.definition.specs.Work.{Work, Step, noRow}
-use Rattle.definition.specs.RowsKept.Choices.{Each, stopped, went}
-use Rattle.definition.specs.RowsKept.AllRows.{set-all}
+use Rattle.rows_kept.specs.Steps.{Each, stopped, went}
+use Rattle.rows_kept.specs.AllRows.{set-all}
 use Rattle.view.specs.Inv.{marked}
 use Rattle.view.specs.Lists.{marked-le, marked-set, marked-clear}
 

@@ -16,9 +16,10 @@ use Rattle.definition.specs.Begin.{Bounds, cross, bounds, Rows, falseRow, rowsA
 use Rattle.definition.specs.Rounds.{afterWaves, rounds}
 use Rattle.definition.specs.Emit.{Out, Final, fails, final, outOne, outFrom, answerOf}
 use Rattle.definition.specs.Presolve.{finish, start, afterRounding, presolve}
-use Rattle.definition.specs.RowsKept.Choices.{both, Each, stopped, went, then}
-use Rattle.definition.specs.RowsKept.Outs.{Goes, skipped, before, missed, emptied, given, rewrites, one-goes}
-use Rattle.definition.specs.RowsKept.AllRows.{snoc-all}
+use Rattle.definition.specs.Choices.{both}
+use Rattle.rows_kept.specs.Steps.{Each, stopped, went, then}
+use Rattle.rows_kept.specs.Outs.{Goes, skipped, before, missed, emptied, given, rewrites, one-goes}
+use Rattle.rows_kept.specs.AllRows.{snoc-all}
 use Rattle.view.specs.Inv.{marked}
 use Rattle.tally.specs.Tallied.{AtMost, at-most, drops-one, Short, Holds, Tallied, more}
 use Rattle.tally.specs.Bounds.{dual-step}
@@ -88,7 +89,13 @@ module _ (M : Model) (A : AllShort M) where
   unfolding marked
   begun =
       let z : Holds 0 0 0 (counts 0 0 0 0 0) [] [] [] =
-      record { counts = record { dropped = omega arith; tightened = omega arith; fixed = omega arith; rewrote = omega arith }; dirties = refl; room = omega arith; rowses = refl; short = λ r. omega arith } in
+      record {
+        counts = record { dropped = omega arith; tightened = omega arith; fixed = omega arith; rewrote = omega arith };
+        dirties = refl;
+        room = omega arith;
+        rowses = refl;
+        short = λ r. omega arith;
+      } in
       subst (λ (i : ℕ). Begun i (readFrom M (length (M .rhs)) 0 (rowsAre [] [] [] 0))) (zero-add (length (M .rhs))) (read-from (length (M .rhs)) 0 _ (read z))
 
 -- ---- rounds

@@ -61,7 +61,12 @@ all-start {s = s} R =
     record {
       upto = omega arith;
       ready = R;
-      left = λ M o k w p c h i. record { work = w; shows = h; inv = i; rest = ap (λ (j : ℕ). tightenFrom M j 0 w false) (let z : s .rows - 0 ≡ length (w .rows) = omega (arith, c .rows, i .rowses) in z) ∙ all-is M w };
+      left = λ M o k w p c h i. record {
+        work = w;
+        shows = h;
+        inv = i;
+        rest = ap (λ (j : ℕ). tightenFrom M j 0 w false) (let z : s .rows - 0 ≡ length (w .rows) = omega (arith, c .rows, i .rowses) in z) ∙ all-is M w;
+      };
     }
 
 module _ {P : Model → Type 0} {s : Shape} {r : ℕ} {changed : Bool} {f₀ f : Floats} {n₀ n : Numbers} (A : AtRow P s r changed f₀ n₀ f n) where

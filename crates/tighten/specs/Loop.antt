@@ -38,7 +38,8 @@ module _ (M : Model) (form : Form) (nz : Float) (r : ℕ) where
   loop-done k i x e = rw e refl
 
   -- from the state that the slices show after a step
-  loop-carried : (j i : ℕ) (y : Rewriting) {z : Progress} → r < length (y .work .rows) → progressOf y ≡ z → closed r (rewriteLoop M j form nz r i (carried r z (shown r y))) ≡ closed r (rewriteLoop M j form nz r i y)
+  loop-carried : (j i : ℕ) (y : Rewriting) {z : Progress} → r < length (y .work .rows) → progressOf y ≡ z
+      → closed r (rewriteLoop M j form nz r i (carried r z (shown r y))) ≡ closed r (rewriteLoop M j form nz r i y)
   loop-carried j i y l e =
       ap (λ (z : Progress). closed r (rewriteLoop M j form nz r i (carried r z (shown r y)))) (sym e)
       ∙ ap (λ (q : Row). closed r (rewriteLoop M j form nz r i (record { row = q; act = y .act; work = shown r y; changed = y .changed; broke = y .broke }))) (row-now r (y .row) (y .work) l)
@@ -60,9 +61,11 @@ pub record AtTerm (P : Model → Type 0) (s : Shape) (form : Form) (nz : Float) 
   pub long : len ≡ getD (n .len) r 0
   pub live : Alive n r
   pub ready : Ready P s f n
-  pub left : (M : Model) (o : List ℕ) (k : ℕ) (w : Work) → P M → Call M s → Shows M f₀ n₀ o w → Inv M k w → LeftRow M f n o k form nz r len i x (closed r (rewriteLoop M len form nz r 0 (carried r x₀ w)))
+  pub left : (M : Model) (o : List ℕ) (k : ℕ) (w : Work) → P M → Call M s → Shows M f₀ n₀ o w → Inv M k w
+      → LeftRow M f n o k form nz r len i x (closed r (rewriteLoop M len form nz r 0 (carried r x₀ w)))
 
-pub at-start : {P : Model → Type 0} {s : Shape} (form : Form) (nz : Float) (r : ℕ) {len : ℕ} {x : Progress} {f : Floats} {n : Numbers} → len ≡ getD (n .len) r 0 → Alive n r → x .broke ≡ false → Ready P s f n → AtTerm P s form nz r len 0 x x f n f n
+pub at-start : {P : Model → Type 0} {s : Shape} (form : Form) (nz : Float) (r : ℕ) {len : ℕ} {x : Progress} {f : Floats} {n : Numbers} → len ≡ getD (n .len) r 0
+    → Alive n r → x .broke ≡ false → Ready P s f n → AtTerm P s form nz r len 0 x x f n f n
 at-start form nz r {len} {x} e a b R =
     record {
       upto = omega arith;
@@ -79,7 +82,8 @@ at-start form nz r {len} {x} e a b R =
 abbrev pub loopAt : Form → Float → ℕ → Progress → Model → Work → Work × Bool
 loopAt form nz r x M w = closed r (rewriteLoop M (length (rowOf w r .terms)) form nz r 0 (carried r x w))
 
-module _ {P : Model → Type 0} {s : Shape} {form : Form} {nz : Float} {r len i : ℕ} {x₀ x : Progress} {f₀ f : Floats} {n₀ n : Numbers} (p : r < s .rows) (A : AtTerm P s form nz r len i x₀ x f₀ n₀ f n) where
+module _ {P : Model → Type 0} {s : Shape} {form : Form} {nz : Float} {r len i : ℕ} {x₀ x : Progress} {f₀ f : Floats} {n₀ n : Numbers} (p : r < s .rows)
+    (A : AtTerm P s form nz r len i x₀ x f₀ n₀ f n) where
   pub term-in : i < len → i < getD (n .len) r 0
   term-in l = omega (arith, l, A .long)
 
@@ -116,7 +120,8 @@ module _ {P : Model → Type 0} {s : Shape} {form : Form} {nz : Float} {r len i 
       after-long : z .broke ≡ false → len ≡ getD (n′ .len) r 0
       after-long e =
           let b : after .broke ≡ false = ap (λ (y : Progress). y .broke) says ∙ e in
-          A .long ∙ row-shown c h p (A .live) .len ∙ sym (step-length M form nz r i (carried r x w) b) ∙ ap (λ (y : Row). length (y .terms)) (sym after-row) ∙ sym (row-shown c after-shows p after-live .len)
+          A .long ∙ row-shown c h p (A .live) .len ∙ sym (step-length M form nz r i (carried r x w) b) ∙ ap (λ (y : Row). length (y .terms)) (sym after-row)
+          ∙ sym (row-shown c after-shows p after-live .len)
 
       rest-is : closed r (rewriteLoop M (len - i) form nz r i (carried r x w)) ≡ closed r (rewriteLoop M (len - (i + 1)) form nz r (i + 1) after)
       rest-is = ap (closed r) (loop-next M form nz r (len - (i + 1)) (len - i) i (i + 1) (carried r x w) (omega (arith, l)) (add-one i))
@@ -167,7 +172,8 @@ module _ {P : Model → Type 0} {s : Shape} {form : Form} {nz : Float} {r len i 
               ap (λ (y : Work × Bool). y .1) (sym (ended M o k w m c h j)) ∙ ap (λ (y : Progress). y .changed) (says M o k (a .work) m c (a .shows) (a .inv));
         }
       where
-        ended : (M : Model) (o : List ℕ) (k : ℕ) (w : Work) (m : P M) (c : Call M s) (h : Shows M f₀ n₀ o w) (j : Inv M k w) → closed r (stepAt form nz r i x M (A .left M o k w m c h j .work)) ≡ loopAt form nz r x₀ M w
+        ended : (M : Model) (o : List ℕ) (k : ℕ) (w : Work) (m : P M) (c : Call M s) (h : Shows M f₀ n₀ o w) (j : Inv M k w)
+            → closed r (stepAt form nz r i x M (A .left M o k w m c h j .work)) ≡ loopAt form nz r x₀ M w
         ended M o k w m c h j =
             let a = A .left M o k w m c h j in
             let y = stepAt form nz r i x M (a .work) in

@@ -143,7 +143,17 @@ closed r s = (shown r s, s .changed)
 -- to store the row that is there changes nothing
 pub stored-is : (r : ℕ) (w : Work) → withRow r (rowOf w r) w ≡ w
 stored-is r w =
-    ap (λ (l : List Row). record { wlo = w .wlo; whi = w .whi; elo = w .elo; ehi = w .ehi; rows = l; dirty = w .dirty; coeffDirty = w .coeffDirty; queue = w .queue; counts = w .counts }) (set-getD (w .rows) r noRow)
+    ap (λ (l : List Row). record {
+      wlo = w .wlo;
+      whi = w .whi;
+      elo = w .elo;
+      ehi = w .ehi;
+      rows = l;
+      dirty = w .dirty;
+      coeffDirty = w .coeffDirty;
+      queue = w .queue;
+      counts = w .counts;
+    }) (set-getD (w .rows) r noRow)
 
 pub shown-over : (r : ℕ) (z : Row) (s : Rewriting) → shown r (over r z s) ≡ shown r s
 shown-over r z s = row-again r z (s .row) (s .work)

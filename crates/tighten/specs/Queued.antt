@@ -83,7 +83,8 @@ module _ {s : Shape} {n : Numbers} {r : ℕ} {d : ℕ} (p : r < s .rows) (e₁ :
           record {
             does = λ M f o k w a c h i.
                 let t : take (q + 1) (set (n .queue) q r) ≡ w .queue ++ (r ∷ []) =
-                rw add-one (take-suc-set (n .queue) q r (omega (arith, room-of c h i, was n r e₂ e₃, l)) ∙ ap (λ (z : List ℕ). z ++ (r ∷ [])) (ap (λ (j : ℕ). take j (n .queue)) (was n r e₂ e₃) ∙ h .queue)) in
+                rw add-one (take-suc-set (n .queue) q r (omega (arith, room-of c h i, was n r e₂ e₃, l)) ∙ ap
+                (λ (z : List ℕ). z ++ (r ∷ [])) (ap (λ (j : ℕ). take j (n .queue)) (was n r e₂ e₃) ∙ h .queue)) in
                 let x : getD (set (n .queued) 0 (q + 1)) 0 0 ≡ q + 1 = getD-set-same (n .queued) 0 (q + 1) 0 (omega (arith, u)) in
                 rw (now-queued r w (clear-flag c h i), e₅, e₄, e₂)
                 (record {
@@ -107,7 +108,18 @@ abbrev pub countRewrote : Work → Work
 countRewrote w = withCounts (rewrote (w .counts)) w
 
 pub inv-rewrote : {M : Model} {k : ℕ} (w : Work) → Inv M k w → Inv M k (countRewrote w)
-inv-rewrote w i = record { wlos = i .wlos; whis = i .whis; elos = i .elos; ehis = i .ehis; dirties = i .dirties; coeffDirties = i .coeffDirties; rowses = i .rowses; queue = i .queue; room = i .room; rows = i .rows }
+inv-rewrote w i = record {
+  wlos = i .wlos;
+  whis = i .whis;
+  elos = i .elos;
+  ehis = i .ehis;
+  dirties = i .dirties;
+  coeffDirties = i .coeffDirties;
+  rowses = i .rowses;
+  queue = i .queue;
+  room = i .room;
+  rows = i .rows;
+}
 
 pub rewrote-acts : {P : Model → Type 0} {s : Shape} {n n′ : Numbers} → length (n .rewrote) ≡ 1 → n′ ≡ put-rewrote 0 ((getD (n .rewrote) 0 0 + 1) % 2 ^ 64) n → ActsN P s n n′ (λ M. countRewrote)
 rewrote-acts {n = n} l e =
@@ -137,7 +149,18 @@ looked r w = withMarks (w .dirty) (set (w .coeffDirty) r false) (w .queue) w
 
 pub inv-looked : {M : Model} {k : ℕ} (r : ℕ) (w : Work) → Inv M k w → Inv M k (looked r w)
 inv-looked r w i =
-    record { wlos = i .wlos; whis = i .whis; elos = i .elos; ehis = i .ehis; dirties = i .dirties; coeffDirties = length-set (w .coeffDirty) r false ∙ i .coeffDirties; rowses = i .rowses; queue = i .queue; room = i .room; rows = i .rows }
+    record {
+      wlos = i .wlos;
+      whis = i .whis;
+      elos = i .elos;
+      ehis = i .ehis;
+      dirties = i .dirties;
+      coeffDirties = length-set (w .coeffDirty) r false ∙ i .coeffDirties;
+      rowses = i .rowses;
+      queue = i .queue;
+      room = i .room;
+      rows = i .rows;
+    }
 
 pub looked-keeps : {P : Model → Type 0} {s : Shape} (r : ℕ) → Keeps P s (λ M. looked r)
 looked-keeps r = record { keeps = λ M k w p c i. inv-looked r w i }

@@ -79,7 +79,8 @@ module _ {M : Model} (f : Floats) (n : Numbers) (r : ℕ) where
       })
       h
 
-touch-turns : {P : Model → Type 0} {s : Shape} {r : ℕ} {f : Floats} {n n′ : Numbers} → r < s .rows → length (n .touched) ≡ s .rows → n′ ≡ put-touched r 1 n → Turns P s r f n f n′ (λ M w. withTouched true)
+touch-turns : {P : Model → Type 0} {s : Shape} {r : ℕ} {f : Floats} {n n′ : Numbers} → r < s .rows → length (n .touched) ≡ s .rows → n′ ≡ put-touched r 1 n
+    → Turns P s r f n f n′ (λ M w. withTouched true)
 touch-turns {r = r} {f = f} {n = n} p l e =
     record {
       does = λ M w x q c h.
@@ -129,7 +130,8 @@ queued-standing {r = r} {f = f} R p a q =
 abbrev pub endedAt : ℕ → Activity → Activity → Model → Work → Rewriting
 endedAt r old act M w = ended M r (rowOf w r) old act (queued r w)
 
-module _ {P : Model → Type 0} {s : Shape} (r : ℕ) {f f₂ : Floats} {n n₁ n₂ : Numbers} {z : Bool} (p : r < s .rows) (a : Alive n r) (q : ActsN Any s n n₁ (λ M. queued r)) (H : Holds P s r f n₁ f₂ n₂ z) (old act : Activity) where
+module _ {P : Model → Type 0} {s : Shape} (r : ℕ) {f f₂ : Floats} {n n₁ n₂ : Numbers} {z : Bool} (p : r < s .rows) (a : Alive n r)
+    (q : ActsN Any s n n₁ (λ M. queued r)) (H : Holds P s r f n₁ f₂ n₂ z) (old act : Activity) where
   module _ (M : Model) (o : List ℕ) (k : ℕ) (w : Work) (m : P M) (c : Call M s) (h : Shows M f n o w) (i : Inv M k w) where
     same-row : rowOf (queued r w) r ≡ rowOf w r
     same-row = ap (λ (l : List Row). getD l r noRow) (queued-rows r w)
@@ -187,7 +189,8 @@ module _ {P : Model → Type 0} {s : Shape} (r : ℕ) {f f₂ : Floats} {n n₁ 
       touched-is : withRow r (withTouched true (rowOf same r)) same ≡ touched
       touched-is = ap (λ (y : Row). withRow r (withTouched true y) same) row₃ ∙ row-again r (rowOf w r) (withTouched true (rowOf w r)) (queued r w)
 
-      on-shown : {n₃ n₄ : Numbers} → length (n₂ .touched) ≡ s .rows → n₃ ≡ put-touched r 1 n₂ → length (n₃ .rewrote) ≡ 1 → n₄ ≡ put-rewrote 0 ((getD (n₃ .rewrote) 0 0 + 1) % 2 ^ 64) n₃ → Shows M f₂ n₄ o (shown r (endedAt r old act M w))
+      on-shown : {n₃ n₄ : Numbers} → length (n₂ .touched) ≡ s .rows → n₃ ≡ put-touched r 1 n₂ → length (n₃ .rewrote) ≡ 1
+          → n₄ ≡ put-rewrote 0 ((getD (n₃ .rewrote) 0 0 + 1) % 2 ^ 64) n₃ → Shows M f₂ n₄ o (shown r (endedAt r old act M w))
       on-shown {n₃} {n₄} lt e₃ lr e₄ =
           let h₄ : Shows M f₂ n₃ o touched = subst (Shows M f₂ n₃ o) touched-is (turns-acts {P = P} p a₃ (touch-turns p lt e₃) .does M o k same m c h₃ i₃) in
           let i₄ : Inv M k touched = inv-row r (withTouched true (rowOf w r)) (queued r w) i₁ (λ _. touched-inv (rowOf w r) (row-inv c h p a i)) in

@@ -13,7 +13,7 @@ use Rattle.definition.specs.Work.{Work}
 use Rattle.definition.specs.Activities.{activity}
 use Rattle.definition.specs.Rewrites.{Form, leForm, geForm, noForm, formOf, vacuousRoom}
 use Rattle.definition.specs.Tighten.{eligible, spared, tightenForm, tightenBy, tightenRow}
-use Rattle.definition.specs.RowsKept.Choices.{and-left}
+use Rattle.definition.specs.Choices.{and-left}
 use Rattle.formulas.specs.declared.Limits.{Limits}
 use Rattle.formulas.specs.Bare.{bare, ByParams, form-of-of, vacuous-room-of}
 use Rattle.formulas.specs.Rewriting.{sparedAt, spared-of}
@@ -56,7 +56,8 @@ module _ (M : Model) (form : Form) (r : ℕ) (w : Work) (changed : Bool) where
   abbrev rewrittenAs : Activity → Float → Bool → Work × Bool
   rewrittenAs act nz b = choose b (w, changed) (loopAt form nz r (begun act changed) M w)
 
-  form-is : (act : Activity) (nz : Float) (k : ℕ) (b : Bool) → activity M w (rowOf w r) true ≡ act → vacuousRoom form (rowOf w r) act ≡ nz → eligible M form nz w (rowOf w r) act (rowOf w r .terms) 0 ≡ k → spared M (rowOf w r) k ≡ b
+  form-is : (act : Activity) (nz : Float) (k : ℕ) (b : Bool) → activity M w (rowOf w r) true ≡ act → vacuousRoom form (rowOf w r) act ≡ nz
+      → eligible M form nz w (rowOf w r) act (rowOf w r .terms) 0 ≡ k → spared M (rowOf w r) k ≡ b
       → tightenForm M form r (rowOf w r) w changed ≡ rewrittenAs act nz b
   unfolding tightenForm
   form-is act nz k b ea en ek eb =
@@ -69,8 +70,11 @@ module _ (M : Model) (form : Form) (r : ℕ) (w : Work) (changed : Bool) where
 abbrev pub formAt : Form → ℕ → Bool → Model → Work → Work × Bool
 formAt form r changed M w = tightenForm M form r (rowOf w r) w changed
 
-module _ {ds ss is : List ℕ} {cs : List Float} {os : List ℕ} {bs : List Float} {s : Shape} (form : Form) (r : ℕ) (changed : Bool) {f : Floats} {n : Numbers} (p : r < s .rows) (a : Alive n r) {act : Activity} (A : Reads (Spans ss) s f n act (λ M w. activity M w (rowOf w r) true))
-    {lim : Limits} (L : ReadsLimits s f r lim) {nz : Float} (en : nz ≡ vacuousRoom form (bare lim) act) {d : ℕ} (E : Reads (Binaries ds ss) s f n d (countAll form nz act r)) {len : ℕ} (el : len ≡ getD (n .len) r 0) {b : Bool} (S : ByParams b (λ M. sparedAt M len d)) where
+module _ {ds ss is : List ℕ} {cs : List Float} {os : List ℕ} {bs : List Float} {s : Shape} (form : Form) (r : ℕ) (changed : Bool) {f : Floats} {n : Numbers}
+    (p : r < s .rows) (a : Alive n r) {act : Activity} (A : Reads (Spans ss) s f n act (λ M w. activity M w (rowOf w r) true))
+    {lim : Limits} (L : ReadsLimits s f r lim) {nz : Float} (en : nz ≡ vacuousRoom form (bare lim) act) {d : ℕ}
+    (E : Reads (Binaries ds ss) s f n d (countAll form nz act r)) {len : ℕ} (el : len ≡ getD (n .len) r 0) {b : Bool}
+    (S : ByParams b (λ M. sparedAt M len d)) where
   tests : (M : Model) (o : List ℕ) (k : ℕ) (w : Work) → Tightening ds ss is cs os bs M → Call M s → Shows M f n o w → Inv M k w → formAt form r changed M w ≡ rewrittenAs M form r w changed act nz b
   tests M o k w m c h i =
       form-is M form r w changed act nz d b
@@ -82,7 +86,9 @@ module _ {ds ss is : List ℕ} {cs : List Float} {os : List ℕ} {bs : List Floa
   pub form-spared : b ≡ true → ActsBool (Tightening ds ss is cs os bs) s f n f n changed (formAt form r changed)
   form-spared e = bool-same (formAt form r changed) (λ M w. (w, changed)) (λ M o k w m c h i. tests M o k w m c h i ∙ yes _ _ e) bool-none
 
-  pub form-rewrites : {f′ : Floats} {n′ : Numbers} {z : Bool} → b ≡ false → ActsBool (Tightening ds ss is cs os bs) s f n f′ n′ z (loopAt form nz r (record { act = act; changed = changed; broke = false })) → ActsBool (Tightening ds ss is cs os bs) s f n f′ n′ z (formAt form r changed)
+  pub form-rewrites : {f′ : Floats} {n′ : Numbers} {z : Bool} → b ≡ false → ActsBool (Tightening ds ss is cs os bs) s f n f′ n′ z
+      (loopAt form nz r (record { act = act; changed = changed; broke = false })) → ActsBool (Tightening ds ss is cs os bs) s f n f′ n′ z
+      (formAt form r changed)
   form-rewrites e = bool-same (formAt form r changed) (loopAt form nz r (begun act changed)) (λ M o k w m c h i. tests M o k w m c h i ∙ no _ _ e)
 
 -- ---- tighten_alive: by the row's form
@@ -101,7 +107,8 @@ by-none M r row w changed = refl
 abbrev pub aliveAt : ℕ → Bool → Model → Work → Work × Bool
 aliveAt r changed M w = tightenBy M (formOf (rowOf w r)) r (rowOf w r) (looked r w) changed
 
-form-here : {s : Shape} {f : Floats} {n : Numbers} {r : ℕ} {lim : Limits} {form : Form} → Alive n r → ReadsLimits s f r lim → form ≡ formOf (bare lim) → {M : Model} {o : List ℕ} {w : Work} → Call M s → Shows M f n o w → formOf (rowOf w r) ≡ form
+form-here : {s : Shape} {f : Floats} {n : Numbers} {r : ℕ} {lim : Limits} {form : Form} → Alive n r → ReadsLimits s f r lim → form ≡ formOf (bare lim)
+    → {M : Model} {o : List ℕ} {w : Work} → Call M s → Shows M f n o w → formOf (rowOf w r) ≡ form
 form-here {n = n} a L e {M} {o} {w} c h = sym (form-of-of (L .has M n o w c h a)) ∙ sym e
 
 module _ {P : Model → Type 0} {s : Shape} {f : Floats} {n n₁ : Numbers} (r : ℕ) (e₁ : n₁ ≡ put-coeffDirty r 0 n) where
@@ -124,12 +131,14 @@ module _ {P : Model → Type 0} {s : Shape} {f : Floats} {n n₁ : Numbers} (r :
     pub alive-le : {f′ : Floats} {n′ : Numbers} {z : Bool} → form ≡ leForm → ActsBool P s f n₁ f′ n′ z (formAt form r changed) → ActsBool P s f n f′ n′ z (aliveAt r changed)
     alive-le e t =
         bool-same (aliveAt r changed) (λ M w. formAt form r changed M (looked r w))
-        (λ M o k w p c h i. ap (λ (y : Form). tightenBy M y r (rowOf w r) (looked r w) changed) (form-here a L ef c h ∙ e) ∙ by-le M r (rowOf w r) (looked r w) changed ∙ ap (λ (y : Form). tightenForm M y r (rowOf w r) (looked r w) changed) (sym e)) (then-looked t)
+        (λ M o k w p c h i. ap (λ (y : Form). tightenBy M y r (rowOf w r) (looked r w) changed) (form-here a L ef c h ∙ e)
+        ∙ by-le M r (rowOf w r) (looked r w) changed ∙ ap (λ (y : Form). tightenForm M y r (rowOf w r) (looked r w) changed) (sym e)) (then-looked t)
 
     pub alive-ge : {f′ : Floats} {n′ : Numbers} {z : Bool} → form ≡ geForm → ActsBool P s f n₁ f′ n′ z (formAt form r changed) → ActsBool P s f n f′ n′ z (aliveAt r changed)
     alive-ge e t =
         bool-same (aliveAt r changed) (λ M w. formAt form r changed M (looked r w))
-        (λ M o k w p c h i. ap (λ (y : Form). tightenBy M y r (rowOf w r) (looked r w) changed) (form-here a L ef c h ∙ e) ∙ by-ge M r (rowOf w r) (looked r w) changed ∙ ap (λ (y : Form). tightenForm M y r (rowOf w r) (looked r w) changed) (sym e)) (then-looked t)
+        (λ M o k w p c h i. ap (λ (y : Form). tightenBy M y r (rowOf w r) (looked r w) changed) (form-here a L ef c h ∙ e)
+        ∙ by-ge M r (rowOf w r) (looked r w) changed ∙ ap (λ (y : Form). tightenForm M y r (rowOf w r) (looked r w) changed) (sym e)) (then-looked t)
 
     pub alive-none : form ≡ noForm → ActsBool P s f n f n₁ changed (aliveAt r changed)
     alive-none e =

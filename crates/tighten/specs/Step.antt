@@ -48,8 +48,10 @@ abbrev pub stepAt : defs.Form → Float → ℕ → ℕ → Progress → Model �
 stepAt form nz r i x M w = rewriteStep M form nz r i (carried r x w)
 
 -- v and b are the term's as the slices have it, lim the row's four floats, z its rewrite
-module _ {ds ss is : List ℕ} {cs : List Float} {os : List ℕ} {bs : List Float} {s : Shape} (r i : ℕ) {f : Floats} {n : Numbers} (p : r < s .rows) (a : Alive n r) (l : i < getD (n .len) r 0) {v : ℕ} {b : Float} (ev : v ≡ getD (n .vars) (getD ss r 0 + i) 0)
-    (eb : b ≡ getD (f .coeffs) (getD ss r 0 + i) nan) (form : defs.Form) (nz : Float) (x : Progress) {lim : Limits} (L : ReadsLimits s f r lim) {z : defs.Rewrite} (T : ReadsF (Domains ds) s f z (λ M w. rewriteAt M (binary M w v) form nz (bare lim) (x .act) b)) where
+module _ {ds ss is : List ℕ} {cs : List Float} {os : List ℕ} {bs : List Float} {s : Shape} (r i : ℕ) {f : Floats} {n : Numbers} (p : r < s .rows)
+    (a : Alive n r) (l : i < getD (n .len) r 0) {v : ℕ} {b : Float} (ev : v ≡ getD (n .vars) (getD ss r 0 + i) 0)
+    (eb : b ≡ getD (f .coeffs) (getD ss r 0 + i) nan) (form : defs.Form) (nz : Float) (x : Progress) {lim : Limits} (L : ReadsLimits s f r lim)
+    {z : defs.Rewrite} (T : ReadsF (Domains ds) s f z (λ M w. rewriteAt M (binary M w v) form nz (bare lim) (x .act) b)) where
   module _ (M : Model) (o : List ℕ) (k : ℕ) (w : Work) (m : Tightening ds ss is cs os bs M) (c : Call M s) (h : Shows M f n o w) (j : Inv M k w) where
     in-row : i < length (rowOf w r .terms)
     in-row = omega (arith, l, row-at c h p a j (tightening-spans M m) .len)
@@ -93,7 +95,8 @@ module _ {ds ss is : List ℕ} {cs : List Float} {os : List ℕ} {bs : List Floa
 
       end-is : endOf M form nz r i (carried r x w) ≡ end
       end-is =
-          ap (λ (t : Term). ended M r (rowAfter M form w (rowOf w r) i t (rewriteOf M form nz w (rowOf w r) (x .act) t)) (x .act) (defs.actAfter form (t .coeff) (rewriteOf M form nz w (rowOf w r) (x .act) t) (x .act)) (queued r w)) term-is
+          ap (λ (t : Term). ended M r (rowAfter M form w (rowOf w r) i t (rewriteOf M form nz w (rowOf w r) (x .act) t)) (x .act)
+          (defs.actAfter form (t .coeff) (rewriteOf M form nz w (rowOf w r) (x .act) t) (x .act)) (queued r w)) term-is
           ∙ ap (λ (y : defs.Rewrite). ended M r (rowAfter M form w (rowOf w r) i (term v b) y) (x .act) (defs.actAfter form b y (x .act)) (queued r w)) rewrite-is
           ∙ ap (λ (y : Activity). ended M r next (x .act) y (queued r w)) (sym ea)
 
@@ -102,7 +105,8 @@ module _ {ds ss is : List ℕ} {cs : List Float} {os : List ℕ} {bs : List Floa
 
       after-ends : ended M r (rowOf (withRow r next w) r) (x .act) act (queued r (withRow r next w)) ≡ over r next end
       after-ends =
-          ap (λ (y : Row). ended M r y (x .act) act (queued r (withRow r next w))) next-row ∙ ap (ended M r next (x .act) act) (queued-over r next w) ∙ ended-over M r next next (x .act) act (queued r w)
+          ap (λ (y : Row). ended M r y (x .act) act (queued r (withRow r next w))) next-row ∙ ap (ended M r next (x .act) act) (queued-over r next w)
+          ∙ ended-over M r next next (x .act) act (queued r w)
 
   pub term-nonzero : Ready (Tightening ds ss is cs os bs) s f n → Nonzero z
   term-nonzero R = nonzero (R .model) (R .other) (R .left) (R .work) (R .known) (R .call) (R .shows) (R .inv)
@@ -116,7 +120,8 @@ module _ {ds ss is : List ℕ} {cs : List Float} {os : List ℕ} {bs : List Floa
       }
 
   module _ {f₁ : Floats} {n₁ : Numbers} (A : Acts (Spans ss) s f n f₁ n₁ (λ M w. withRow r (rowAfter M form w (rowOf w r) i (term v b) z) w)) where
-    after-shows : (M : Model) (o : List ℕ) (k : ℕ) (w : Work) (m : Tightening ds ss is cs os bs M) (c : Call M s) (h : Shows M f n o w) (j : Inv M k w) → Shows M f₁ n₁ o (withRow r (next M o k w m c h j) w)
+    after-shows : (M : Model) (o : List ℕ) (k : ℕ) (w : Work) (m : Tightening ds ss is cs os bs M) (c : Call M s) (h : Shows M f n o w) (j : Inv M k w)
+        → Shows M f₁ n₁ o (withRow r (next M o k w m c h j) w)
     after-shows M o k w m c h j = A .does M o k w (tightening-spans M m) c h j
 
     pub after-ready : Ready (Tightening ds ss is cs os bs) s f n → Ready (Written ss is cs os bs) s f₁ n₁
@@ -135,7 +140,8 @@ module _ {ds ss is : List ℕ} {cs : List Float} {os : List ℕ} {bs : List Floa
     pub after-live : Ready (Tightening ds ss is cs os bs) s f n → Alive n₁ r
     after-live R =
         alive-of (R .call) (after-shows (R .model) (R .other) (R .left) (R .work) (R .known) (R .call) (R .shows) (R .inv)) p
-        (ap (λ (y : Row). y .alive) (next-row (R .model) (R .other) (R .left) (R .work) (R .known) (R .call) (R .shows) (R .inv)) ∙ next-alive (R .model) (R .other) (R .left) (R .work) (R .known) (R .call) (R .shows) (R .inv))
+        (ap (λ (y : Row). y .alive) (next-row (R .model) (R .other) (R .left) (R .work) (R .known) (R .call) (R .shows) (R .inv))
+        ∙ next-alive (R .model) (R .other) (R .left) (R .work) (R .known) (R .call) (R .shows) (R .inv))
 
     pub step-rewrites : {d : ℕ} {act : Activity} {f₂ : Floats} {n₂ : Numbers} {y : Progress} → x .broke ≡ false → d ≡ defs.rewrites z → (d ≡ 0 → ⊥) → act ≡ defs.actAfter form b z (x .act)
         → Carries (Written ss is cs os bs) s r f₁ n₁ f₂ n₂ y (λ M w. ended M r (rowOf w r) (x .act) act (queued r w)) → Carries (Tightening ds ss is cs os bs) s r f n f₂ n₂ y (stepAt form nz r i x)

@@ -1,4 +1,5 @@
-// The terms of one row, rewritten in their order.
+// `tighten_binary_coeffs` of src/presolve/work.rs of microlp 0.7.0, changed: the terms of one row,
+// rewritten in their order.
 ghost use mathlib.Core.Path.{_≡_};
 ghost use mathlib.Core.Bool.{false};
 ghost use Prim.Native.Nat.{_<_};
@@ -50,7 +51,9 @@ fn rewritten(
 ) -> Progress
     requires { ⌜ (r < s .rows) × HoldsF s (now w) × HoldsN s (now m) × Alive (numbersOf s (now m)) r ⌝ }
     requires { ⌜ Ready (Written (now starts) (now index) (now coeff) (now cmp) (now rhs)) s (floatsOf s (now w)) (numbersOf s (now m)) ⌝ }
-    ensures { λ z. ⌜ Carries (Written (now (starts .entry)) (now (index .entry)) (now (coeff .entry)) (now (cmp .entry)) (now (rhs .entry))) s r (floatsOf s (now (w .entry))) (numbersOf s (now (m .entry))) (floatsOf s (now (w .exit))) (numbersOf s (now (m .exit))) z (λ M u. ended M r (rowOf u r) old act (queued r u)) ⌝ }
+    ensures { λ z. ⌜ Carries (Written (now (starts .entry)) (now (index .entry)) (now (coeff .entry)) (now (cmp .entry)) (now (rhs .entry))) s r
+        (floatsOf s (now (w .entry))) (numbersOf s (now (m .entry))) (floatsOf s (now (w .exit))) (numbersOf s (now (m .exit))) z
+        (λ M u. ended M r (rowOf u r) old act (queued r u)) ⌝ }
 {
     requeue(m, s, r);
     if folds::hold_rewrites(starts, index, coeff, cmp, rhs, w, m, s, r) {
@@ -88,7 +91,9 @@ fn rewrite_step(
 ) -> Progress
     requires { ⌜ (r < s .rows) × HoldsF s (now w) × HoldsN s (now m) × Alive (numbersOf s (now m)) r × (i < getD (numbersOf s (now m) .len) r 0) × (x .broke ≡ false) ⌝ }
     requires { ⌜ Ready (Tightening (now domain) (now starts) (now index) (now coeff) (now cmp) (now rhs)) s (floatsOf s (now w)) (numbersOf s (now m)) ⌝ }
-    ensures { λ z. ⌜ Carries (Tightening (now (domain .entry)) (now (starts .entry)) (now (index .entry)) (now (coeff .entry)) (now (cmp .entry)) (now (rhs .entry))) s r (floatsOf s (now (w .entry))) (numbersOf s (now (m .entry))) (floatsOf s (now (w .exit))) (numbersOf s (now (m .exit))) z (λ M u. rewriteStep M (formIs f) nz r i (carried r x u)) ⌝ }
+    ensures { λ z. ⌜ Carries (Tightening (now (domain .entry)) (now (starts .entry)) (now (index .entry)) (now (coeff .entry)) (now (cmp .entry))
+        (now (rhs .entry))) s r (floatsOf s (now (w .entry))) (numbersOf s (now (m .entry))) (floatsOf s (now (w .exit))) (numbersOf s (now (m .exit))) z
+        (λ M u. rewriteStep M (formIs f) nz r i (carried r x u)) ⌝ }
 {
     let p = starts[r] + i;
     let v = space::get_var(m, s, p);
@@ -104,7 +109,7 @@ fn rewrite_step(
 }
 
 // = rewriteLoop, over all terms: whether something changed. A row that was given back is left at once.
-pub fn rewrite_loop(
+pub(crate) fn rewrite_loop(
     domain: &[u8],
     starts: &[usize],
     index: &[usize],
@@ -121,7 +126,9 @@ pub fn rewrite_loop(
 ) -> bool
     requires { ⌜ (r < s .rows) × HoldsF s (now w) × HoldsN s (now m) × Alive (numbersOf s (now m)) r × (x .broke ≡ false) ⌝ }
     requires { ⌜ Ready (Tightening (now domain) (now starts) (now index) (now coeff) (now cmp) (now rhs)) s (floatsOf s (now w)) (numbersOf s (now m)) ⌝ }
-    ensures { λ z. ⌜ ActsBool (Tightening (now (domain .entry)) (now (starts .entry)) (now (index .entry)) (now (coeff .entry)) (now (cmp .entry)) (now (rhs .entry))) s (floatsOf s (now (w .entry))) (numbersOf s (now (m .entry))) (floatsOf s (now (w .exit))) (numbersOf s (now (m .exit))) z (λ M u. closed r (rewriteLoop M (length (rowOf u r .terms)) (formIs f) nz r 0 (carried r x u))) ⌝ }
+    ensures { λ z. ⌜ ActsBool (Tightening (now (domain .entry)) (now (starts .entry)) (now (index .entry)) (now (coeff .entry)) (now (cmp .entry))
+        (now (rhs .entry))) s (floatsOf s (now (w .entry))) (numbersOf s (now (m .entry))) (floatsOf s (now (w .exit))) (numbersOf s (now (m .exit))) z
+        (λ M u. closed r (rewriteLoop M (length (rowOf u r .terms)) (formIs f) nz r 0 (carried r x u))) ⌝ }
 {
     let len = space::get_len(m, s, r);
     let mut x = x;

@@ -1,4 +1,5 @@
-// `tighten_binary_coeffs`: coefficient tightening on rows with one finite side, row by row.
+// `tighten_binary_coeffs` of src/presolve/work.rs of microlp 0.7.0, changed: coefficient tightening on
+// rows with one finite side, row by row.
 ghost use Prim.Native.Nat.{_<_};
 ghost use Rattle.definition.specs.Rewrites.{formOf};
 ghost use Rattle.definition.specs.Tighten.{tightenForm, tightenBy, tightenRow, tightenBinaryCoeffs};
@@ -31,7 +32,9 @@ fn tighten_form(
 ) -> bool
     requires { ⌜ (r < s .rows) × HoldsF s (now w) × HoldsN s (now m) × Alive (numbersOf s (now m)) r ⌝ }
     requires { ⌜ Ready (Tightening (now domain) (now starts) (now index) (now coeff) (now cmp) (now rhs)) s (floatsOf s (now w)) (numbersOf s (now m)) ⌝ }
-    ensures { λ z. ⌜ ActsBool (Tightening (now (domain .entry)) (now (starts .entry)) (now (index .entry)) (now (coeff .entry)) (now (cmp .entry)) (now (rhs .entry))) s (floatsOf s (now (w .entry))) (numbersOf s (now (m .entry))) (floatsOf s (now (w .exit))) (numbersOf s (now (m .exit))) z (λ M u. tightenForm M (formIs f) r (rowOf u r) u changed) ⌝ }
+    ensures { λ z. ⌜ ActsBool (Tightening (now (domain .entry)) (now (starts .entry)) (now (index .entry)) (now (coeff .entry)) (now (cmp .entry))
+        (now (rhs .entry))) s (floatsOf s (now (w .entry))) (numbersOf s (now (m .entry))) (floatsOf s (now (w .exit))) (numbersOf s (now (m .exit))) z
+        (λ M u. tightenForm M (formIs f) r (rowOf u r) u changed) ⌝ }
 {
     let act = readers::activity(starts, w, m, s, r, true);
     let l = readers::limits(w, s, r);
@@ -65,7 +68,9 @@ fn tighten_alive(
 ) -> bool
     requires { ⌜ (r < s .rows) × HoldsF s (now w) × HoldsN s (now m) × Alive (numbersOf s (now m)) r ⌝ }
     requires { ⌜ Ready (Tightening (now domain) (now starts) (now index) (now coeff) (now cmp) (now rhs)) s (floatsOf s (now w)) (numbersOf s (now m)) ⌝ }
-    ensures { λ z. ⌜ ActsBool (Tightening (now (domain .entry)) (now (starts .entry)) (now (index .entry)) (now (coeff .entry)) (now (cmp .entry)) (now (rhs .entry))) s (floatsOf s (now (w .entry))) (numbersOf s (now (m .entry))) (floatsOf s (now (w .exit))) (numbersOf s (now (m .exit))) z (λ M u. tightenBy M (formOf (rowOf u r)) r (rowOf u r) (looked r u) changed) ⌝ }
+    ensures { λ z. ⌜ ActsBool (Tightening (now (domain .entry)) (now (starts .entry)) (now (index .entry)) (now (coeff .entry)) (now (cmp .entry))
+        (now (rhs .entry))) s (floatsOf s (now (w .entry))) (numbersOf s (now (m .entry))) (floatsOf s (now (w .exit))) (numbersOf s (now (m .exit))) z
+        (λ M u. tightenBy M (formOf (rowOf u r)) r (rowOf u r) (looked r u) changed) ⌝ }
 {
     space::put_coeff_dirty(m, s, r, 0);
     let l = readers::limits(w, s, r);
@@ -123,7 +128,9 @@ fn tighten_row(
 ) -> bool
     requires { ⌜ (r < s .rows) × HoldsF s (now w) × HoldsN s (now m) ⌝ }
     requires { ⌜ Ready (Tightening (now domain) (now starts) (now index) (now coeff) (now cmp) (now rhs)) s (floatsOf s (now w)) (numbersOf s (now m)) ⌝ }
-    ensures { λ z. ⌜ ActsBool (Tightening (now (domain .entry)) (now (starts .entry)) (now (index .entry)) (now (coeff .entry)) (now (cmp .entry)) (now (rhs .entry))) s (floatsOf s (now (w .entry))) (numbersOf s (now (m .entry))) (floatsOf s (now (w .exit))) (numbersOf s (now (m .exit))) z (λ M u. tightenRow M r u changed) ⌝ }
+    ensures { λ z. ⌜ ActsBool (Tightening (now (domain .entry)) (now (starts .entry)) (now (index .entry)) (now (coeff .entry)) (now (cmp .entry))
+        (now (rhs .entry))) s (floatsOf s (now (w .entry))) (numbersOf s (now (m .entry))) (floatsOf s (now (w .exit))) (numbersOf s (now (m .exit))) z
+        (λ M u. tightenRow M r u changed) ⌝ }
 {
     let live = space::get_alive(m, s, r);
     if live == 1 {
@@ -150,7 +157,9 @@ pub fn tighten_binary_coeffs(
 ) -> bool
     requires { ⌜ HoldsF s (now w) × HoldsN s (now m) ⌝ }
     requires { ⌜ Ready (Tightening (now domain) (now starts) (now index) (now coeff) (now cmp) (now rhs)) s (floatsOf s (now w)) (numbersOf s (now m)) ⌝ }
-    ensures { λ z. ⌜ ActsBool (Tightening (now (domain .entry)) (now (starts .entry)) (now (index .entry)) (now (coeff .entry)) (now (cmp .entry)) (now (rhs .entry))) s (floatsOf s (now (w .entry))) (numbersOf s (now (m .entry))) (floatsOf s (now (w .exit))) (numbersOf s (now (m .exit))) z (λ M. tightenBinaryCoeffs M) ⌝ }
+    ensures { λ z. ⌜ ActsBool (Tightening (now (domain .entry)) (now (starts .entry)) (now (index .entry)) (now (coeff .entry)) (now (cmp .entry))
+        (now (rhs .entry))) s (floatsOf s (now (w .entry))) (numbersOf s (now (m .entry))) (floatsOf s (now (w .exit))) (numbersOf s (now (m .exit))) z
+        (λ M. tightenBinaryCoeffs M) ⌝ }
 {
     let mut changed = false;
     let mut r = 0;

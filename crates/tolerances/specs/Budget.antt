@@ -56,14 +56,17 @@ unfolding ofCount
 part n h =
     let i = of-is (pos n) (le-trans (le-of-eq (add-zero n)) (le-trans h (lit≤ tt))) in
     let c = ofInt binary64 (pos n) in
-    let s = add-is (bounded (2 ^ 53) c (pos n) i (le-trans (le-of-eq (add-zero n)) (le-trans h (lit≤ tt)))) (bounded (2 ^ 53) 2f (pos 2) two-is (lit≤ tt)) (subst (λ (z : ℤ). A z ≤ 2 ^ 53) (sym (sums c i)) (le-trans (more n h) (lit≤ tt))) in
+    let s = add-is (bounded (2 ^ 53) c (pos n) i (le-trans (le-of-eq (add-zero n)) (le-trans h (lit≤ tt)))) (bounded (2 ^ 53) 2f (pos 2) two-is (lit≤ tt))
+    (subst (λ (z : ℤ). A z ≤ 2 ^ 53) (sym (sums c i)) (le-trans (more n h) (lit≤ tt))) in
     let x = c ⊕ 2f in
     let si : Is x (pos (n + 2)) = record { whole = s .whole; is = s .is ∙ sums c i } in
     let nx = whole-num x (si .whole) in
     let ux = whole-nonneg x (si .whole) (subst (λ (z : ℤ). pos 0 ⊑ z) (sym (si .is)) zero-le) in
     let uu = pos-parts UNIT-ROUNDOFF (2 ^ 1021) unit-parts in
     let p = product-nonneg x UNIT-ROUNDOFF nx (unit-parts .num) ux uu in
-    let most = product-most x UNIT-ROUNDOFF (3 * 2 ^ 1071) nx (unit-parts .num) ux uu eighths-held (le-trans (le-of-eq (ap (λ (z : ℤ). P (units x) * P z) (parts-units UNIT-ROUNDOFF false (2 ^ 1021) unit-parts))) (le-trans (mul-le-mul-right (2 ^ 1021) (most-units 258 x (bounded 258 x (pos (n + 2)) si (more n h)))) (lit≤ tt))) in
+    let most = product-most x UNIT-ROUNDOFF (3 * 2 ^ 1071) nx (unit-parts .num) ux uu eighths-held
+    (le-trans (le-of-eq (ap (λ (z : ℤ). P (units x) * P z) (parts-units UNIT-ROUNDOFF false (2 ^ 1021) unit-parts)))
+    (le-trans (mul-le-mul-right (2 ^ 1021) (most-units 258 x (bounded 258 x (pos (n + 2)) si (more n h)))) (lit≤ tt))) in
     let t = tol-of (nonneg-real p) (nonneg-rank p) most in
     record { num = tol-num t; low = tol-least t }
   where
@@ -98,7 +101,9 @@ margin r x a hx = go (lt h x) refl
         only z h = Rattle.floats.specs.Zed.ext z (pos (P z)) (omega (arith, side z))
 
     below : rank (½f ⊗ r) ⊑ pos (P (units r))
-    below = product-most ½f r (P (units r)) (half-parts .num) nr (pos-parts ½f (2 ^ 1073) half-parts) (tol-least a) held-r (le-trans (le-of-eq (ap (λ (z : ℤ). P z * P (units r)) (parts-units ½f false (2 ^ 1073) half-parts) ∙ mul-comm (2 ^ 1073) (P (units r)))) (native.Mathlib.Nat.mul-le-mul-left (P (units r)) (lit≤ tt)))
+    below = product-most ½f r (P (units r)) (half-parts .num) nr (pos-parts ½f (2 ^ 1073) half-parts) (tol-least a) held-r
+        (le-trans (le-of-eq (ap (λ (z : ℤ). P z * P (units r)) (parts-units ½f false (2 ^ 1073) half-parts) ∙ mul-comm (2 ^ 1073) (P (units r))))
+        (native.Mathlib.Nat.mul-le-mul-left (P (units r)) (lit≤ tt)))
 
     upto : (z u : ℤ) → pos 0 ⊑ u → z ⊑ pos (P u) → z ⊑ u
     upto z u h k = omega (arith, side u)
@@ -113,13 +118,16 @@ margin r x a hx = go (lt h x) refl
 
     go : (b : Bool) → lt (½f ⊗ r) x ≡ b → Margin r (minf x (½f ⊗ r))
     go true e = subst (Margin r) (sym (minf-second x (½f ⊗ r) e)) (made (½f ⊗ r) ph (upto (rank (½f ⊗ r)) (units r) (tol-least a) below))
-    go false e = subst (Margin r) (sym (minf-first x (½f ⊗ r) (nonneg-real hx .real) e)) (made x hx (link (rank x) (rank (½f ⊗ r)) (units r) (nlt→⊑ (½f ⊗ r) x (nonneg-real ph) (nonneg-real hx) (subst (λ (t : Bool). T (not t)) (sym e) tt)) (upto (rank (½f ⊗ r)) (units r) (tol-least a) below)))
+    go false e = subst (Margin r) (sym (minf-first x (½f ⊗ r) (nonneg-real hx .real) e))
+        (made x hx (link (rank x) (rank (½f ⊗ r)) (units r) (nlt→⊑ (½f ⊗ r) x (nonneg-real ph) (nonneg-real hx) (subst (λ (t : Bool). T (not t)) (sym e) tt))
+        (upto (rank (½f ⊗ r)) (units r) (tol-least a) below)))
 
 margin-of : {t m : Float} (n : ℕ) → n ≤ 256 → Tol t → Bounded (2 ^ 45) m → pos 0 ⊑ int m → Margin (rowTolerance t m) (slackMargin t m n)
 unfolding slackMargin
 margin-of {t} {m} n h a b o =
     let q = part n h in
-    margin (rowTolerance t m) ((ofCount n ⊕ 2f) ⊗ UNIT-ROUNDOFF ⊗ m) (row-tol a b o) (product-nonneg ((ofCount n ⊕ 2f) ⊗ UNIT-ROUNDOFF) m (q .num) (whole-num m (b .whole)) (q .low) (whole-nonneg m (b .whole) o))
+    margin (rowTolerance t m) ((ofCount n ⊕ 2f) ⊗ UNIT-ROUNDOFF ⊗ m) (row-tol a b o)
+    (product-nonneg ((ofCount n ⊕ 2f) ⊗ UNIT-ROUNDOFF) m (q .num) (whole-num m (b .whole)) (q .low) (whole-nonneg m (b .whole) o))
 
 pub budget : {t m : Float} (n : ℕ) → n ≤ 256 → Tol t → Bounded (2 ^ 45) m → pos 0 ⊑ int m → Tol (slackTol t m n)
 unfolding slackTol
@@ -131,7 +139,8 @@ budget {t} {m} n h a b o =
     let nr = tol-num R in
     tol-of (sub-result r s nr (M .num) .real)
     (sub-above r s nr (M .num) (pos 0) zero-held (not-below (units r) (units s) (M .high)))
-    (link (rank (r ⊖ s)) (units r) (pos (3 * 2 ^ 1071)) (sub-below r s nr (M .num) (units r) (subst K.Held (rank-num r nr) (held-of r (tol-real R))) (smaller (units r) (units s) (M .low))) (tol-most R))
+    (link (rank (r ⊖ s)) (units r) (pos (3 * 2 ^ 1071)) (sub-below r s nr (M .num) (units r) (subst K.Held (rank-num r nr) (held-of r (tol-real R)))
+    (smaller (units r) (units s) (M .low))) (tol-most R))
   where
     not-below : (u v : ℤ) → v ⊑ u → pos 0 ⊑ u -ℤ v
     not-below u v h = omega (arith, sub-parts u v)
@@ -146,7 +155,8 @@ margin-tol {t} {m} n h a b o =
     let s = slackMargin t m n in
     let M = margin-of n h a b o in
     let e = rank-num s (M .num) in
-    tol-of (num-real s (M .num)) (subst (λ (z : ℤ). pos 0 ⊑ z) (sym e) (M .low)) (link (rank s) (units r) (pos (3 * 2 ^ 1071)) (subst (λ (z : ℤ). z ⊑ units r) (sym e) (M .high)) (tol-most (row-tol a b o)))
+    tol-of (num-real s (M .num)) (subst (λ (z : ℤ). pos 0 ⊑ z) (sym e) (M .low))
+    (link (rank s) (units r) (pos (3 * 2 ^ 1071)) (subst (λ (z : ℤ). z ⊑ units r) (sym e) (M .high)) (tol-most (row-tol a b o)))
 
 -- the tolerance at a bound
 pub bound-tol : {t b : Float} → Tol t → Bounded (2 ^ 45) b → Tol (boundTolerance t b)

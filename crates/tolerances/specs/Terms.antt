@@ -8,7 +8,8 @@ use lib.ListN.{length}
 use lib.Ieee.{Float}
 use Rattle.floats.specs.Num.{choose}
 use Rattle.cdouble.specs.declared.CDouble.{CDouble}
-use Rattle.tolerances.specs.Tol.{Term, slackMin, slackMax, excursion, impliedFrom, impliedSlack, trivialVerdict, saysTrue, violated, violation, rowStart, rowTerm, rowSlack, slackViolates, slackViolation}
+use Rattle.tolerances.specs.Tol.{Term, slackMin, slackMax, excursion, impliedFrom, impliedSlack, trivialVerdict, saysTrue}
+use Rattle.tolerances.specs.Tol.{violated, violation, rowStart, rowTerm, rowSlack, slackViolates, slackViolation}
 
 -- the loop over the terms, from a sum so far
 unfoldable pub rowFrom : (ℕ → Float) → CDouble × Float → List Term → CDouble × Float
@@ -26,20 +27,24 @@ slack-by-terms x b ts = made ∙ ap rowSlack (row-from x (rowStart b) ts)
     made : impliedSlack x b ts ≡ rowSlack (impliedFrom x (rowStart b .0) (rowStart b .1) ts)
     made = unfold impliedSlack rowStart rowSlack in refl
 
-pub violated-by-slack : (tol : Float) (op : ℕ) (ts : List Term) (b : Float) (x : ℕ → Float) → violated tol op ts b x ≡ (not (saysTrue (trivialVerdict tol op (length ts) b)) && slackViolates tol op (impliedSlack x b ts))
+pub violated-by-slack : (tol : Float) (op : ℕ) (ts : List Term) (b : Float) (x : ℕ → Float) → violated tol op ts b x
+    ≡ (not (saysTrue (trivialVerdict tol op (length ts) b)) && slackViolates tol op (impliedSlack x b ts))
 unfolding violated slackViolates
 violated-by-slack tol op ts b x = refl
 
-pub violation-by-slack : (tol : Float) (op : ℕ) (ts : List Term) (b : Float) (x : ℕ → Float) → violation tol op ts b x ≡ choose (saysTrue (trivialVerdict tol op (length ts) b)) none (slackViolation tol op (impliedSlack x b ts))
+pub violation-by-slack : (tol : Float) (op : ℕ) (ts : List Term) (b : Float) (x : ℕ → Float) → violation tol op ts b x
+    ≡ choose (saysTrue (trivialVerdict tol op (length ts) b)) none (slackViolation tol op (impliedSlack x b ts))
 violation-by-slack tol op ts b x = made ∙ pick (saysTrue (trivialVerdict tol op (length ts) b)) (slackViolates tol op (impliedSlack x b ts)) _ ∙ rest
   where
     pick : (p q : Bool) (r : Option Float) → choose (not p && q) r none ≡ choose p none (choose q r none)
     pick true q r = unfold choose in refl
     pick false q r = unfold choose in refl
 
-    made : violation tol op ts b x ≡ choose (not (saysTrue (trivialVerdict tol op (length ts) b)) && slackViolates tol op (impliedSlack x b ts)) (some (excursion (impliedSlack x b ts .0) (slackMin op) (slackMax op))) none
+    made : violation tol op ts b x ≡ choose (not (saysTrue (trivialVerdict tol op (length ts) b)) && slackViolates tol op (impliedSlack x b ts))
+        (some (excursion (impliedSlack x b ts .0) (slackMin op) (slackMax op))) none
     made = unfold violation violated slackViolates in refl
 
-    rest : choose (saysTrue (trivialVerdict tol op (length ts) b)) none (choose (slackViolates tol op (impliedSlack x b ts)) (some (excursion (impliedSlack x b ts .0) (slackMin op) (slackMax op))) none)
+    rest : choose (saysTrue (trivialVerdict tol op (length ts) b)) none
+        (choose (slackViolates tol op (impliedSlack x b ts)) (some (excursion (impliedSlack x b ts .0) (slackMin op) (slackMax op))) none)
         ≡ choose (saysTrue (trivialVerdict tol op (length ts) b)) none (slackViolation tol op (impliedSlack x b ts))
     rest = unfold slackViolation in refl

@@ -33,7 +33,7 @@ pub record Tries (P : Model → Type 0) (s : Shape) (f : Floats) (n : Numbers) (
 pub record Reads {A : Type 0} (P : Model → Type 0) (s : Shape) (f : Floats) (n : Numbers) (z : A) (F : Model → Work → A) : Type 0 where
   pub reads : (M : Model) (o : List ℕ) (k : ℕ) (w : Work) → P M → Call M s → Shows M f n o w → Inv M k w → F M w ≡ z
 
--- the same of a function that has the numbers alone, whatever the floats are
+-- what a step asks and promises that has the numbers alone: whatever the floats are
 pub record ReadyN (P : Model → Type 0) (s : Shape) (n : Numbers) : Type 0 where
   pub floats : Floats
   pub ready : Ready P s floats n

@@ -36,40 +36,144 @@ setEhi v x w = withBounds (w .wlo) (w .whi) (w .elo) (set (w .ehi) v x) w
 
 module _ {P : Model → Type 0} {s : Shape} (v : ℕ) (x : Float) where
   pub wlo-keeps : Keeps P s (λ M. setWlo v x)
-  wlo-keeps = record { keeps = λ M k w p c i. record { wlos = length-set (w .wlo) v x ∙ i .wlos; whis = i .whis; elos = i .elos; ehis = i .ehis; dirties = i .dirties; coeffDirties = i .coeffDirties; rowses = i .rowses; queue = i .queue; room = i .room; rows = i .rows } }
+  wlo-keeps = record {
+    keeps = λ M k w p c i. record {
+      wlos = length-set (w .wlo) v x ∙ i .wlos;
+      whis = i .whis;
+      elos = i .elos;
+      ehis = i .ehis;
+      dirties = i .dirties;
+      coeffDirties = i .coeffDirties;
+      rowses = i .rowses;
+      queue = i .queue;
+      room = i .room;
+      rows = i .rows;
+    };
+  }
 
   pub whi-keeps : Keeps P s (λ M. setWhi v x)
-  whi-keeps = record { keeps = λ M k w p c i. record { wlos = i .wlos; whis = length-set (w .whi) v x ∙ i .whis; elos = i .elos; ehis = i .ehis; dirties = i .dirties; coeffDirties = i .coeffDirties; rowses = i .rowses; queue = i .queue; room = i .room; rows = i .rows } }
+  whi-keeps = record {
+    keeps = λ M k w p c i. record {
+      wlos = i .wlos;
+      whis = length-set (w .whi) v x ∙ i .whis;
+      elos = i .elos;
+      ehis = i .ehis;
+      dirties = i .dirties;
+      coeffDirties = i .coeffDirties;
+      rowses = i .rowses;
+      queue = i .queue;
+      room = i .room;
+      rows = i .rows;
+    };
+  }
 
   pub elo-keeps : Keeps P s (λ M. setElo v x)
-  elo-keeps = record { keeps = λ M k w p c i. record { wlos = i .wlos; whis = i .whis; elos = length-set (w .elo) v x ∙ i .elos; ehis = i .ehis; dirties = i .dirties; coeffDirties = i .coeffDirties; rowses = i .rowses; queue = i .queue; room = i .room; rows = i .rows } }
+  elo-keeps = record {
+    keeps = λ M k w p c i. record {
+      wlos = i .wlos;
+      whis = i .whis;
+      elos = length-set (w .elo) v x ∙ i .elos;
+      ehis = i .ehis;
+      dirties = i .dirties;
+      coeffDirties = i .coeffDirties;
+      rowses = i .rowses;
+      queue = i .queue;
+      room = i .room;
+      rows = i .rows;
+    };
+  }
 
   pub ehi-keeps : Keeps P s (λ M. setEhi v x)
-  ehi-keeps = record { keeps = λ M k w p c i. record { wlos = i .wlos; whis = i .whis; elos = i .elos; ehis = length-set (w .ehi) v x ∙ i .ehis; dirties = i .dirties; coeffDirties = i .coeffDirties; rowses = i .rowses; queue = i .queue; room = i .room; rows = i .rows } }
+  ehi-keeps = record {
+    keeps = λ M k w p c i. record {
+      wlos = i .wlos;
+      whis = i .whis;
+      elos = i .elos;
+      ehis = length-set (w .ehi) v x ∙ i .ehis;
+      dirties = i .dirties;
+      coeffDirties = i .coeffDirties;
+      rowses = i .rowses;
+      queue = i .queue;
+      room = i .room;
+      rows = i .rows;
+    };
+  }
 
 module _ {P : Model → Type 0} {s : Shape} {f f′ : Floats} {n : Numbers} {v : ℕ} {x : Float} where
   pub wlo-acts : f′ ≡ put-wlo v x f → Acts P s f n f′ n (λ M. setWlo v x)
   wlo-acts e =
       record {
-        does = λ M o k w p c h i. rw e (record { wlo = ap (λ (l : List Float). set l v x) (h .wlo); whi = h .whi; elo = h .elo; ehi = h .ehi; dirty = h .dirty; coeffDirty = h .coeffDirty; queued = h .queued; queue = h .queue; counts = h .counts; wave = h .wave; alive = h .alive; rows = h .rows });
+        does = λ M o k w p c h i. rw e (record {
+          wlo = ap (λ (l : List Float). set l v x) (h .wlo);
+          whi = h .whi;
+          elo = h .elo;
+          ehi = h .ehi;
+          dirty = h .dirty;
+          coeffDirty = h .coeffDirty;
+          queued = h .queued;
+          queue = h .queue;
+          counts = h .counts;
+          wave = h .wave;
+          alive = h .alive;
+          rows = h .rows;
+        });
       }
 
   pub whi-acts : f′ ≡ put-whi v x f → Acts P s f n f′ n (λ M. setWhi v x)
   whi-acts e =
       record {
-        does = λ M o k w p c h i. rw e (record { wlo = h .wlo; whi = ap (λ (l : List Float). set l v x) (h .whi); elo = h .elo; ehi = h .ehi; dirty = h .dirty; coeffDirty = h .coeffDirty; queued = h .queued; queue = h .queue; counts = h .counts; wave = h .wave; alive = h .alive; rows = h .rows });
+        does = λ M o k w p c h i. rw e (record {
+          wlo = h .wlo;
+          whi = ap (λ (l : List Float). set l v x) (h .whi);
+          elo = h .elo;
+          ehi = h .ehi;
+          dirty = h .dirty;
+          coeffDirty = h .coeffDirty;
+          queued = h .queued;
+          queue = h .queue;
+          counts = h .counts;
+          wave = h .wave;
+          alive = h .alive;
+          rows = h .rows;
+        });
       }
 
   pub elo-acts : f′ ≡ put-elo v x f → Acts P s f n f′ n (λ M. setElo v x)
   elo-acts e =
       record {
-        does = λ M o k w p c h i. rw e (record { wlo = h .wlo; whi = h .whi; elo = ap (λ (l : List Float). set l v x) (h .elo); ehi = h .ehi; dirty = h .dirty; coeffDirty = h .coeffDirty; queued = h .queued; queue = h .queue; counts = h .counts; wave = h .wave; alive = h .alive; rows = h .rows });
+        does = λ M o k w p c h i. rw e (record {
+          wlo = h .wlo;
+          whi = h .whi;
+          elo = ap (λ (l : List Float). set l v x) (h .elo);
+          ehi = h .ehi;
+          dirty = h .dirty;
+          coeffDirty = h .coeffDirty;
+          queued = h .queued;
+          queue = h .queue;
+          counts = h .counts;
+          wave = h .wave;
+          alive = h .alive;
+          rows = h .rows;
+        });
       }
 
   pub ehi-acts : f′ ≡ put-ehi v x f → Acts P s f n f′ n (λ M. setEhi v x)
   ehi-acts e =
       record {
-        does = λ M o k w p c h i. rw e (record { wlo = h .wlo; whi = h .whi; elo = h .elo; ehi = ap (λ (l : List Float). set l v x) (h .ehi); dirty = h .dirty; coeffDirty = h .coeffDirty; queued = h .queued; queue = h .queue; counts = h .counts; wave = h .wave; alive = h .alive; rows = h .rows });
+        does = λ M o k w p c h i. rw e (record {
+          wlo = h .wlo;
+          whi = h .whi;
+          elo = h .elo;
+          ehi = ap (λ (l : List Float). set l v x) (h .ehi);
+          dirty = h .dirty;
+          coeffDirty = h .coeffDirty;
+          queued = h .queued;
+          queue = h .queue;
+          counts = h .counts;
+          wave = h .wave;
+          alive = h .alive;
+          rows = h .rows;
+        });
       }
 
 -- ---- one more counted
@@ -81,10 +185,36 @@ countTightened w = withCounts (tightened (w .counts)) w
 
 module _ {P : Model → Type 0} {s : Shape} where
   pub fixed-keeps : Keeps P s (λ M. countFixed)
-  fixed-keeps = record { keeps = λ M k w p c i. record { wlos = i .wlos; whis = i .whis; elos = i .elos; ehis = i .ehis; dirties = i .dirties; coeffDirties = i .coeffDirties; rowses = i .rowses; queue = i .queue; room = i .room; rows = i .rows } }
+  fixed-keeps = record {
+    keeps = λ M k w p c i. record {
+      wlos = i .wlos;
+      whis = i .whis;
+      elos = i .elos;
+      ehis = i .ehis;
+      dirties = i .dirties;
+      coeffDirties = i .coeffDirties;
+      rowses = i .rowses;
+      queue = i .queue;
+      room = i .room;
+      rows = i .rows;
+    };
+  }
 
   pub tightened-keeps : Keeps P s (λ M. countTightened)
-  tightened-keeps = record { keeps = λ M k w p c i. record { wlos = i .wlos; whis = i .whis; elos = i .elos; ehis = i .ehis; dirties = i .dirties; coeffDirties = i .coeffDirties; rowses = i .rowses; queue = i .queue; room = i .room; rows = i .rows } }
+  tightened-keeps = record {
+    keeps = λ M k w p c i. record {
+      wlos = i .wlos;
+      whis = i .whis;
+      elos = i .elos;
+      ehis = i .ehis;
+      dirties = i .dirties;
+      coeffDirties = i .coeffDirties;
+      rowses = i .rowses;
+      queue = i .queue;
+      room = i .room;
+      rows = i .rows;
+    };
+  }
 
 module _ {P : Model → Type 0} {s : Shape} {n n′ : Numbers} where
   pub fixed-acts : length (n .fixed) ≡ 1 → n′ ≡ put-fixed 0 ((getD (n .fixed) 0 0 + 1) % 2 ^ 64) n → ActsN P s n n′ (λ M. countFixed)
@@ -113,7 +243,8 @@ module _ {P : Model → Type 0} {s : Shape} {n n′ : Numbers} where
   tightened-acts l e =
       record {
         does = λ M f o k w p c h i.
-            let z = getD-set-same (n .tightened) 0 ((getD (n .tightened) 0 0 + 1) % 2 ^ 64) 0 (omega (arith, l)) ∙ count-mod (w .counts .boundsTightened) (getD (n .tightened) 0 0) (h .counts .tightened) in
+            let z = getD-set-same (n .tightened) 0 ((getD (n .tightened) 0 0 + 1) % 2 ^ 64) 0 (omega (arith, l))
+            ∙ count-mod (w .counts .boundsTightened) (getD (n .tightened) 0 0) (h .counts .tightened) in
             rw e
             (record {
               wlo = h .wlo;
@@ -150,7 +281,18 @@ pub inv-tighten : {M : Model} {k : ℕ} (v : ℕ) (w : Work) → Inv M k w → I
 unfolding markTightened
 inv-tighten v w i =
     inv-mark-var v (countTightened w)
-    (record { wlos = i .wlos; whis = i .whis; elos = i .elos; ehis = i .ehis; dirties = i .dirties; coeffDirties = i .coeffDirties; rowses = i .rowses; queue = i .queue; room = i .room; rows = i .rows })
+    (record {
+      wlos = i .wlos;
+      whis = i .whis;
+      elos = i .elos;
+      ehis = i .ehis;
+      dirties = i .dirties;
+      coeffDirties = i .coeffDirties;
+      rowses = i .rowses;
+      queue = i .queue;
+      room = i .room;
+      rows = i .rows;
+    })
 
 -- ---- a bound as the slices have it is the state's
 module _ {M : Model} {f : Floats} {n : Numbers} {o : List ℕ} {w : Work} (v : ℕ) {x : Float} (h : Shows M f n o w) where

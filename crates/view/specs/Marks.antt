@@ -34,7 +34,18 @@ module _ {M : Model} {k : ℕ} where
   unfolding markRow
   inv-mark-row r w i =
       either (Inv M k) (getD (w .dirty) r true)
-      (λ e. record { wlos = i .wlos; whis = i .whis; elos = i .elos; ehis = i .ehis; dirties = i .dirties; coeffDirties = length-set (w .coeffDirty) r true ∙ i .coeffDirties; rowses = i .rowses; queue = i .queue; room = i .room; rows = i .rows })
+      (λ e. record {
+        wlos = i .wlos;
+        whis = i .whis;
+        elos = i .elos;
+        ehis = i .ehis;
+        dirties = i .dirties;
+        coeffDirties = length-set (w .coeffDirty) r true ∙ i .coeffDirties;
+        rowses = i .rowses;
+        queue = i .queue;
+        room = i .room;
+        rows = i .rows;
+      })
       (λ e.
       let z = marked-set (w .dirty) r e in
       let y = clear-in (w .dirty) r e in
@@ -111,7 +122,8 @@ module _ {s : Shape} {n : Numbers} {r : ℕ} where
             });
       }
 
-  pub mark-new : {n₁ n₂ n₃ n₄ : Numbers} {d q : ℕ} → r < s .rows → length (n .queue) ≡ s .rows → length (n .queued) ≡ 1 → n₁ ≡ put-coeffDirty r 1 n → d ≡ getD (n₁ .dirty) r 0 → (d ≡ 1 → ⊥) → n₂ ≡ put-dirty r 1 n₁
+  pub mark-new : {n₁ n₂ n₃ n₄ : Numbers} {d q : ℕ} → r < s .rows → length (n .queue) ≡ s .rows → length (n .queued) ≡ 1 → n₁ ≡ put-coeffDirty r 1 n
+      → d ≡ getD (n₁ .dirty) r 0 → (d ≡ 1 → ⊥) → n₂ ≡ put-dirty r 1 n₁
       → q ≡ getD (n₂ .queued) 0 0 → n₃ ≡ put-queue q r n₂ → n₄ ≡ put-queued 0 (q + 1) n₃ → ActsN Any s n n₄ (λ M. markRow r)
   mark-new {n₁} {n₂} {n₃} {n₄} {d} {q} p l u e₁ e₂ ne e₃ e₄ e₅ e₆ =
       let b : q ≡ getD (n .queued) 0 0 = e₄ ∙ ap (λ (z : Numbers). getD (z .queued) 0 0) (e₃ ∙ ap (put-dirty r 1) e₁) in

@@ -71,7 +71,8 @@ pub record OneRow (M : Model) (r : ℕ) (x : Row) (f : Floats) (n : Numbers) (f�
   pub tally : tallyOf n′ ≡ tallyOf n
   pub wave : n′ .wave ≡ n .wave
 
-pub shows-row : {M : Model} {k : ℕ} {f f′ : Floats} {n n′ : Numbers} {o : List ℕ} (r : ℕ) (x : Row) (w : Work) → r < length (M .rhs) → Shows M f n o w → Inv M k w → OneRow M r x f n f′ n′ → Shows M f′ n′ o (withRow r x w)
+pub shows-row : {M : Model} {k : ℕ} {f f′ : Floats} {n n′ : Numbers} {o : List ℕ} (r : ℕ) (x : Row) (w : Work) → r < length (M .rhs) → Shows M f n o w
+    → Inv M k w → OneRow M r x f n f′ n′ → Shows M f′ n′ o (withRow r x w)
 shows-row {M} {k} {f} {f′} {n} {n′} {o} r x w l h i d =
     record {
       wlo = d .wlo ∙ h .wlo;

@@ -24,7 +24,29 @@ use Rattle.rows.specs.Steps.{inv-next}
 use Rattle.wave.specs.Rows.{ReadyWave, TriesWave, inv-rows, passes-rows}
 
 abbrev withWave : List ℕ → Numbers → Numbers
-withWave o f = record { queued = f .queued; dropped = f .dropped; tightened = f .tightened; fixed = f .fixed; rewrote = f .rewrote; passes = f .passes; dirty = f .dirty; coeffDirty = f .coeffDirty; queue = f .queue; wave = o; len = f .len; folded = f .folded; alive = f .alive; touched = f .touched; binaries = f .binaries; fate = f .fate; slot = f .slot; badDec = f .badDec; badInc = f .badInc; vars = f .vars; binary = f .binary }
+withWave o f = record {
+  queued = f .queued;
+  dropped = f .dropped;
+  tightened = f .tightened;
+  fixed = f .fixed;
+  rewrote = f .rewrote;
+  passes = f .passes;
+  dirty = f .dirty;
+  coeffDirty = f .coeffDirty;
+  queue = f .queue;
+  wave = o;
+  len = f .len;
+  folded = f .folded;
+  alive = f .alive;
+  touched = f .touched;
+  binaries = f .binaries;
+  fate = f .fate;
+  slot = f .slot;
+  badDec = f .badDec;
+  badInc = f .badInc;
+  vars = f .vars;
+  binary = f .binary;
+}
 
 -- ---- copy_queue
 pub record Copied (n n′ : Numbers) (cnt : ℕ) : Type 0 where
@@ -34,7 +56,8 @@ pub record Copied (n n′ : Numbers) (cnt : ℕ) : Type 0 where
 pub copied-start : {n : Numbers} → Copied n n 0
 copied-start = record { same = refl; taken = refl }
 
-pub copied-turn : {n₀ n n₁ : Numbers} {m cnt i r : ℕ} → Copied n₀ n i → length (n .wave) ≡ m → length (n₀ .queue) ≡ m → cnt ≤ m → i < cnt → r ≡ getD (n .queue) i 0 → n₁ ≡ put-wave i r n → Copied n₀ n₁ (i + 1)
+pub copied-turn : {n₀ n n₁ : Numbers} {m cnt i r : ℕ} → Copied n₀ n i → length (n .wave) ≡ m → length (n₀ .queue) ≡ m → cnt ≤ m → i < cnt
+    → r ≡ getD (n .queue) i 0 → n₁ ≡ put-wave i r n → Copied n₀ n₁ (i + 1)
 copied-turn {n₀} {n} {n₁} {m} {cnt} {i} {r} C lw lq lc il er e =
     let ew : n₁ .wave ≡ set (n .wave) i r = ap (λ (x : Numbers). x .wave) e in
     let eq : n .queue ≡ n₀ .queue = ap (λ (x : Numbers). x .queue) (C .same) in
@@ -107,7 +130,8 @@ passes-small {n} {p = p} C e₂ ep h =
     omega (arith, b, h)
 
 -- the state with which the wave's rows begin
-module _ {f : Floats} {n n₁ n₂ n₃ : Numbers} {cnt p : ℕ} (lq : length (n .queued) ≡ 1) (lp : length (n .passes) ≡ 1) (ec : cnt ≡ getD (n .queued) 0 0) (C : Copied n n₁ cnt) (e₂ : n₂ ≡ put-queued 0 0 n₁) (ep : p ≡ getD (n₂ .passes) 0 0) (e₃ : n₃ ≡ put-passes 0 (p + 1) n₂) where
+module _ {f : Floats} {n n₁ n₂ n₃ : Numbers} {cnt p : ℕ} (lq : length (n .queued) ≡ 1) (lp : length (n .passes) ≡ 1) (ec : cnt ≡ getD (n .queued) 0 0)
+    (C : Copied n n₁ cnt) (e₂ : n₂ ≡ put-queued 0 0 n₁) (ep : p ≡ getD (n₂ .passes) 0 0) (e₃ : n₃ ≡ put-passes 0 (p + 1) n₂) where
   shows-begun : {M : Model} {o : List ℕ} {w : Work} → Shows M f n o w → Shows M f n₃ (n₁ .wave) (begun w)
   shows-begun {w = w} h =
       let b : p ≡ getD (n .passes) 0 0 = ep ∙ ap (λ (x : Numbers). getD (x .passes) 0 0) (e₂ ∙ ap (put-queued 0 0) (C .same)) in
@@ -133,7 +157,8 @@ module _ {f : Floats} {n n₁ n₂ n₃ : Numbers} {cnt p : ℕ} (lq : length (n
 rows-are : {M : Model} {f : Floats} {n n₁ : Numbers} {o : List ℕ} {w : Work} {cnt : ℕ} → cnt ≡ getD (n .queued) 0 0 → Copied n n₁ cnt → Shows M f n o w → take cnt (n₁ .wave) ≡ w .queue
 rows-are {n = n} ec C h = C .taken ∙ ap (λ (j : ℕ). take j (n .queue)) ec ∙ h .queue
 
-module _ {P : Model → Type 0} {s : Shape} {f : Floats} {n n₁ n₂ n₃ : Numbers} {cnt p : ℕ} (lq : length (n .queued) ≡ 1) (lp : length (n .passes) ≡ 1) (ec : cnt ≡ getD (n .queued) 0 0) (C : Copied n n₁ cnt) (e₂ : n₂ ≡ put-queued 0 0 n₁) (ep : p ≡ getD (n₂ .passes) 0 0)
+module _ {P : Model → Type 0} {s : Shape} {f : Floats} {n n₁ n₂ n₃ : Numbers} {cnt p : ℕ} (lq : length (n .queued) ≡ 1) (lp : length (n .passes) ≡ 1)
+    (ec : cnt ≡ getD (n .queued) 0 0) (C : Copied n n₁ cnt) (e₂ : n₂ ≡ put-queued 0 0 n₁) (ep : p ≡ getD (n₂ .passes) 0 0)
     (e₃ : n₃ ≡ put-passes 0 (p + 1) n₂) where
   pub ready-wave : Ready P s f n → ReadyWave P s f n₃ cnt
   ready-wave R =

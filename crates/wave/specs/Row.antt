@@ -122,11 +122,13 @@ module _ {P : Model → Type 0} {s : Shape} {f : Floats} {n n₁ : Numbers} (r :
             went-by (row-dead-is M r w (sym (g .alive r (omega (arith, p, c .rows))) ∙ one-not (getD (n₁ .alive) r 0) (λ z. ne (ev ∙ z)))) g;
       }
 
-folds-acts : {ds ss is : List ℕ} {cs : List Float} {os : List ℕ} {bs : List Float} {js : List ℕ} {s : Shape} {f f′ : Floats} {n n′ : Numbers} (r : ℕ) → r < s .rows → Alive n r → Turns (Written ss is cs os bs) s r f n f′ n′ (λ M. foldFixed M r)
+folds-acts : {ds ss is : List ℕ} {cs : List Float} {os : List ℕ} {bs : List Float} {js : List ℕ} {s : Shape} {f f′ : Floats} {n n′ : Numbers} (r : ℕ)
+    → r < s .rows → Alive n r → Turns (Written ss is cs os bs) s r f n f′ n′ (λ M. foldFixed M r)
     → Acts (Known ds ss is cs os bs js) s f n f′ n′ (λ M w. withRow r (foldFixed M r w (rowOf w r)) w)
 folds-acts r p a T = acts-under known-written (turns-acts p a T)
 
-module _ {ds ss is : List ℕ} {cs : List Float} {os : List ℕ} {bs : List Float} {js : List ℕ} {s : Shape} {f : Floats} {n n₁ : Numbers} {f₂ : Floats} {n₂ : Numbers} (r : ℕ) (p : r < s .rows) (e₁ : n₁ ≡ put-dirty r 0 n) {v : ℕ} (ev : v ≡ getD (n₁ .alive) r 0)
+module _ {ds ss is : List ℕ} {cs : List Float} {os : List ℕ} {bs : List Float} {js : List ℕ} {s : Shape} {f : Floats} {n n₁ : Numbers} {f₂ : Floats}
+    {n₂ : Numbers} (r : ℕ) (p : r < s .rows) (e₁ : n₁ ≡ put-dirty r 0 n) {v : ℕ} (ev : v ≡ getD (n₁ .alive) r 0)
     (one : v ≡ 1) (T : Turns (Written ss is cs os bs) s r f n₁ f₂ n₂ (λ M. foldFixed M r)) where
   pub ready-folded : ReadyRow (Known ds ss is cs os bs js) s f n → Ready (Known ds ss is cs os bs js) s f₂ n₂
   ready-folded R = ready-after (ready-clear r p e₁ R) (folds-acts r p (sym ev ∙ one) T) (fold-fixed-keeps r p)
@@ -138,9 +140,11 @@ module _ {ds ss is : List ℕ} {cs : List Float} {os : List ℕ} {bs : List Floa
       let h = folds-acts r p (sym ev ∙ one) T .does (q .model) (q .other) (q .left) w (q .known) (q .call) (q .shows) (q .inv) in
       let y = foldFixed (q .model) r w (rowOf w r) in
       let l : r < length (w .rows) = omega (arith, p, q .call .rows, q .inv .rowses) in
-      alive-of (q .call) h p (ap (λ (x : Row). x .alive) (row-now r y w l) ∙ fold-fixed-kept r w (q .call) (omega (arith, p, q .call .rows)) (rowOf w r) .alive (row-alive (q .call) (q .shows) p (sym ev ∙ one)))
+      alive-of (q .call) h p (ap (λ (x : Row). x .alive) (row-now r y w l) ∙ fold-fixed-kept r w (q .call) (omega (arith, p, q .call .rows)) (rowOf w r) .alive
+      (row-alive (q .call) (q .shows) p (sym ev ∙ one)))
 
-  pub row-live : {f₃ : Floats} {n₃ : Numbers} {z : code.Step} → Tries (Known ds ss is cs os bs js) s f₂ n₂ f₃ n₃ z (λ M w. byCount M r (rowOf w r) (rowOf w r .terms) w) → TriesRow (Known ds ss is cs os bs js) s f n f₃ n₃ z (λ M. waveRow M r)
+  pub row-live : {f₃ : Floats} {n₃ : Numbers} {z : code.Step} → Tries (Known ds ss is cs os bs js) s f₂ n₂ f₃ n₃ z
+      (λ M w. byCount M r (rowOf w r) (rowOf w r .terms) w) → TriesRow (Known ds ss is cs os bs js) s f n f₃ n₃ z (λ M. waveRow M r)
   row-live {f₃} {n₃} {z} t =
       record {
         does = λ M o k w q c h i.

@@ -65,7 +65,8 @@ pub passing-start : {P : Model → Type 0} {s : Shape} {f : Floats} {n : Numbers
 passing-start = record { each = λ M o k w q c h i. record { work = w; shows = h; inv = subst (λ (j : ℕ). Inv M j w) (omega arith) i; holds = refl } }
 
 module _ {P : Model → Type 0} {s : Shape} {f₀ f : Floats} {n₀ n : Numbers} {cnt i : ℕ} (R : ReadyWave P s f₀ n₀ cnt) (l : length (n₀ .wave) ≡ s .rows) (T : Passing P s f₀ n₀ f n cnt i) where
-  passed-here : Onward (R .ready .model) f n (R .ready .other) (R .ready .left - cnt + (cnt - i)) (λ u. waveRows (R .ready .model) (drop i (take cnt (R .ready .other))) u ≡ waveRows (R .ready .model) (take cnt (R .ready .other)) (R .ready .work))
+  passed-here : Onward (R .ready .model) f n (R .ready .other) (R .ready .left - cnt + (cnt - i))
+      (λ u. waveRows (R .ready .model) (drop i (take cnt (R .ready .other))) u ≡ waveRows (R .ready .model) (take cnt (R .ready .other)) (R .ready .work))
   passed-here =
       let q = R .ready in
       T .each (q .model) (q .other) (q .left - cnt) (q .work) (q .known) (q .call) (q .shows) (subst (λ (j : ℕ). Inv (q .model) j (q .work)) (omega (arith, R .left)) (q .inv))

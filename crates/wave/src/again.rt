@@ -1,4 +1,5 @@
-// The waves of a round: while the queue is not empty, and fewer were run than all rounds may have.
+// src/presolve/mod.rs of microlp 0.7.0, changed: the waves of a round, while the queue is not empty and
+// fewer were run than all rounds may have.
 ghost use Prim.Native.Nat.{_-_};
 ghost use Rattle.definition.specs.Params.{maxWaves};
 ghost use Rattle.definition.specs.Wave as definition;
@@ -25,7 +26,9 @@ pub fn waves(
 ) -> Step
     requires { ⌜ HoldsF s (now w) × HoldsN s (now m) ⌝ }
     requires { ⌜ Ready (Known (now domain) (now starts) (now index) (now coeff) (now cmp) (now rhs) (now adj)) s (floatsOf s (now w)) (numbersOf s (now m)) ⌝ }
-    ensures { λ z. ⌜ Waves (Known (now (domain .entry)) (now (starts .entry)) (now (index .entry)) (now (coeff .entry)) (now (cmp .entry)) (now (rhs .entry)) (now (adj .entry))) s (floatsOf s (now (w .entry))) (numbersOf s (now (m .entry))) (floatsOf s (now (w .exit))) (numbersOf s (now (m .exit))) z (λ M u. definition.waves M (maxWaves (M .params) - u .counts .passes) u) ⌝ }
+    ensures { λ z. ⌜ Waves (Known (now (domain .entry)) (now (starts .entry)) (now (index .entry)) (now (coeff .entry)) (now (cmp .entry)) (now (rhs .entry))
+        (now (adj .entry))) s (floatsOf s (now (w .entry))) (numbersOf s (now (m .entry))) (floatsOf s (now (w .exit))) (numbersOf s (now (m .exit))) z
+        (λ M u. definition.waves M (maxWaves (M .params) - u .counts .passes) u) ⌝ }
 {
     let cap = formulas::max_waves();
     let mut p = space::get_passes(m, s);

@@ -1,5 +1,5 @@
-// One row of a wave: it is no longer queued while it is handled, so a bound that it changes queues it
-// again.
+// `primal_wave` of src/presolve/work.rs of microlp 0.7.0, changed: one row of a wave.
+// It is no longer queued while it is handled, so a bound that it changes queues it again.
 ghost use Prim.Native.Nat.{_<_};
 ghost use Rattle.definition.specs.Wave.{waveRow};
 ghost use Rattle.space.specs.Store.{floatsOf, numbersOf, HoldsF, HoldsN};
@@ -9,7 +9,7 @@ use space::Shape;
 use space::Step;
 
 // = waveRow
-pub fn wave_row(
+pub(crate) fn wave_row(
     domain: &[u8],
     starts: &[usize],
     index: &[usize],
@@ -24,7 +24,9 @@ pub fn wave_row(
 ) -> Step
     requires { ⌜ (r < s .rows) × HoldsF s (now w) × HoldsN s (now m) ⌝ }
     requires { ⌜ ReadyRow (Known (now domain) (now starts) (now index) (now coeff) (now cmp) (now rhs) (now adj)) s (floatsOf s (now w)) (numbersOf s (now m)) ⌝ }
-    ensures { λ z. ⌜ TriesRow (Known (now (domain .entry)) (now (starts .entry)) (now (index .entry)) (now (coeff .entry)) (now (cmp .entry)) (now (rhs .entry)) (now (adj .entry))) s (floatsOf s (now (w .entry))) (numbersOf s (now (m .entry))) (floatsOf s (now (w .exit))) (numbersOf s (now (m .exit))) z (λ M. waveRow M r) ⌝ }
+    ensures { λ z. ⌜ TriesRow (Known (now (domain .entry)) (now (starts .entry)) (now (index .entry)) (now (coeff .entry)) (now (cmp .entry)) (now (rhs .entry))
+        (now (adj .entry))) s (floatsOf s (now (w .entry))) (numbersOf s (now (m .entry))) (floatsOf s (now (w .exit))) (numbersOf s (now (m .exit))) z
+        (λ M. waveRow M r) ⌝ }
 {
     space::put_dirty(m, s, r, 0);
     let live = space::get_alive(m, s, r);

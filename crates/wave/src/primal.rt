@@ -1,4 +1,6 @@
-// A wave: the rows queued so far, one after the other. What they queue is the next wave's.
+// `primal_wave` of src/presolve/work.rs of microlp 0.7.0, changed: the rows queued so far, one after
+// the other.
+// What they queue is the next wave's.
 ghost use Prim.Native.Nat.{_<_};
 ghost use lib.ListN.{getD};
 ghost use Rattle.definition.specs.Wave as definition;
@@ -28,7 +30,9 @@ fn wave_rows(
 ) -> Step
     requires { ⌜ HoldsF s (now w) × HoldsN s (now m) ⌝ }
     requires { ⌜ ReadyWave (Known (now domain) (now starts) (now index) (now coeff) (now cmp) (now rhs) (now adj)) s (floatsOf s (now w)) (numbersOf s (now m)) n ⌝ }
-    ensures { λ z. ⌜ TriesWave (Known (now (domain .entry)) (now (starts .entry)) (now (index .entry)) (now (coeff .entry)) (now (cmp .entry)) (now (rhs .entry)) (now (adj .entry))) s (floatsOf s (now (w .entry))) (numbersOf s (now (m .entry))) (floatsOf s (now (w .exit))) (numbersOf s (now (m .exit))) z n ⌝ }
+    ensures { λ z. ⌜ TriesWave (Known (now (domain .entry)) (now (starts .entry)) (now (index .entry)) (now (coeff .entry)) (now (cmp .entry))
+        (now (rhs .entry)) (now (adj .entry))) s (floatsOf s (now (w .entry))) (numbersOf s (now (m .entry))) (floatsOf s (now (w .exit)))
+        (numbersOf s (now (m .exit))) z n ⌝ }
 {
     let mut i: usize = 0;
     while i < n {
@@ -46,7 +50,7 @@ fn wave_rows(
 }
 
 // = wave
-pub fn primal_wave(
+pub(crate) fn primal_wave(
     domain: &[u8],
     starts: &[usize],
     index: &[usize],
@@ -60,7 +64,9 @@ pub fn primal_wave(
 ) -> Step
     requires { ⌜ HoldsF s (now w) × HoldsN s (now m) × (getD (numbersOf s (now m) .passes) 0 0 < 30) ⌝ }
     requires { ⌜ Ready (Known (now domain) (now starts) (now index) (now coeff) (now cmp) (now rhs) (now adj)) s (floatsOf s (now w)) (numbersOf s (now m)) ⌝ }
-    ensures { λ z. ⌜ Waves (Known (now (domain .entry)) (now (starts .entry)) (now (index .entry)) (now (coeff .entry)) (now (cmp .entry)) (now (rhs .entry)) (now (adj .entry))) s (floatsOf s (now (w .entry))) (numbersOf s (now (m .entry))) (floatsOf s (now (w .exit))) (numbersOf s (now (m .exit))) z definition.wave ⌝ }
+    ensures { λ z. ⌜ Waves (Known (now (domain .entry)) (now (starts .entry)) (now (index .entry)) (now (coeff .entry)) (now (cmp .entry)) (now (rhs .entry))
+        (now (adj .entry))) s (floatsOf s (now (w .entry))) (numbersOf s (now (m .entry))) (floatsOf s (now (w .exit))) (numbersOf s (now (m .exit))) z
+        definition.wave ⌝ }
 {
     let n = space::get_queued(m, s);
     copy_queue(m, s, n);

@@ -1,10 +1,11 @@
-// The rows queued so far become the wave's.
+// `mem::take` in `primal_wave` of src/presolve/work.rs of microlp 0.7.0, changed: the rows queued so
+// far become the wave's.
 ghost use Prim.Native.Nat.{_≤_};
 ghost use Rattle.space.specs.Store.{numbersOf, HoldsN};
 ghost use Rattle.wave.specs.Begin.{Copied};
 use space::Shape;
 
-pub fn copy_queue(m: &mut [usize], s: Shape, n: usize)
+pub(crate) fn copy_queue(m: &mut [usize], s: Shape, n: usize)
     requires { ⌜ (n ≤ s .rows) × HoldsN s (now m) ⌝ }
     ensures { λ _. ⌜ Copied (numbersOf s (now (m .entry))) (numbersOf s (now (m .exit))) n ⌝ }
 {

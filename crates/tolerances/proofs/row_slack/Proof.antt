@@ -4,12 +4,6 @@ use Rattle.tolerances.specs.Tol.{rowSlack}
 use Rattle.tolerances.proofs.row_slack.Statement.{statement}
 use Rattle.tolerances.proofs.row_slack.Tie as tie
 
-value-requires : tie.Need-value-requires
-value-requires c κs = search needs
-
-returns : tie.Need-returns
-unfolding rowSlack
-returns c = cc
-
 pub row-slack-spec : {M : Type 1} → statement M
-row-slack-spec = tie.close (tie.spec value-requires returns)
+unfolding rowSlack
+row-slack-spec = tie.close (tie.spec (search needs) (λ c. cc))

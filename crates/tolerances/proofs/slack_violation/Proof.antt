@@ -6,32 +6,10 @@ use Rattle.tolerances.proofs.Facts.{slack-missed, slack-met}
 use Rattle.tolerances.proofs.slack_violation.Statement.{statement}
 use Rattle.tolerances.proofs.slack_violation.Tie as tie
 
-slack-violates-requires : tie.Need-slack-violates-requires
-slack-violates-requires c κs = search needs
-
-slack-min-requires : tie.Need-slack-min-requires
-slack-min-requires c κs = search needs
-
-slack-max-requires : tie.Need-slack-max-requires
-slack-max-requires c κs = search needs
-
-excursion-requires : tie.Need-excursion-requires
-excursion-requires c κs = search needs
-
-returns : tie.Need-returns
-returns c =
-    let h = c .before in
-    let l = h .before in
-    let v = l .before .before in
-    let s = v .before in
-    slack-missed (s .args .feasibility) (s .args .op) (pairOf (s .args .implied)) (l .slack-min .result) (h .slack-max .result) (c .excursion .result)
-    (sym (v .slack-violates .ensures) ∙ l .before .if1 .taken) (l .slack-min .ensures) (h .slack-max .ensures) (c .excursion .ensures)
-
-returns-2 : tie.Need-returns-2
-returns-2 c =
-    let v = c .before in
-    let s = v .before in
-    slack-met (s .args .feasibility) (s .args .op) (pairOf (s .args .implied)) (sym (v .slack-violates .ensures) ∙ c .if1 .left)
-
 pub slack-violation-spec : {M : Type 1} → statement M
-slack-violation-spec = tie.close (tie.spec slack-violates-requires slack-min-requires slack-max-requires excursion-requires returns returns-2)
+slack-violation-spec = tie.close (tie.spec (search needs) (search needs) (search needs) (search needs)
+    (λ c. let h = c .before in let l = h .before in let v = l .before .before in let s = v .before in
+    slack-missed (s .args .feasibility) (s .args .op) (pairOf (s .args .implied)) (l .slack-min .result) (h .slack-max .result) (c .excursion .result)
+    (sym (v .slack-violates .ensures) ∙ l .before .if1 .taken) (l .slack-min .ensures) (h .slack-max .ensures) (c .excursion .ensures))
+    (λ c. let v = c .before in let s = v .before in slack-met (s .args .feasibility) (s .args .op) (pairOf (s .args .implied))
+    (sym (v .slack-violates .ensures) ∙ c .if1 .left)))

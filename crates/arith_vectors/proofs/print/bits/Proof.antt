@@ -13,14 +13,5 @@ number nan e = absurd (false≢true e)
 number (inf s) e = tt
 number (fin s m d) e = tt
 
-float-to-bits-result : tie.Need-float-to-bits-result
-float-to-bits-result c = number (c .before .args .x) (c .if1 .taken)
-
-returns : tie.Need-returns
-returns c = search needs
-
-returns-2 : tie.Need-returns-2
-returns-2 c = search needs
-
 pub bits-spec : {M : Type 1} → statement M
-bits-spec = tie.close (tie.spec float-to-bits-result returns returns-2)
+bits-spec = tie.close (tie.spec (λ c. number (c .before .args .x) (c .if1 .taken)) (search needs) (search needs))

@@ -5,39 +5,10 @@ use borrow.Author.Needs.{needs}
 use Rattle.begin.proofs.reading.clear.Statement.{statement}
 use Rattle.begin.proofs.reading.clear.Tie as tie
 
-put-queued-requires : tie.Need-put-queued-requires
-put-queued-requires c κs = search needs
-
-put-dropped-requires : tie.Need-put-dropped-requires
-put-dropped-requires c κs = search needs
-
-put-tightened-requires : tie.Need-put-tightened-requires
-put-tightened-requires c κs = search needs
-
-put-fixed-requires : tie.Need-put-fixed-requires
-put-fixed-requires c κs = search needs
-
-put-rewrote-requires : tie.Need-put-rewrote-requires
-put-rewrote-requires c κs = search needs
-
-put-passes-requires : tie.Need-put-passes-requires
-put-passes-requires c κs = search needs
-
-same-length : tie.Need-same-length
-same-length c = search needs
-
-returns : tie.Need-returns
-returns c = clear-end (numbersOf (c .before .before .before .before .before .before .before .before .before .before .before .before .before .before .before .before .before .before .before .before .before .before .before .before .before .args .s) (c .before .before .before .before .before .before .before .before .before .before .before .before .before .before .before .before .before .before .before .before .before .before .before .before .before .args .m .now)) (c .before .before .before .before .before .before .before .before .before .before .before .before .before .before .before .before .before .before .before .before .before .before .put-queued .ensures) (c .before .before .before .before .before .before .before .before .before .before .before .before .before .before .before .before .before .before .put-dropped .ensures) (c .before .before .before .before .before .before .before .before .before .before .before .before .before .before .put-tightened .ensures) (c .before .before .before .before .before .before .before .before .before .before .put-fixed .ensures) (c .before .before .before .before .before .before .put-rewrote .ensures) (c .before .before .put-passes .ensures)
-
 pub clear-spec : {M : Type 1} → statement M
-clear-spec =
-    tie.close
-    (tie.spec
-    put-queued-requires
-    put-dropped-requires
-    put-tightened-requires
-    put-fixed-requires
-    put-rewrote-requires
-    put-passes-requires
-    same-length
-    returns)
+clear-spec = tie.close (tie.spec (search needs) (search needs) (search needs) (search needs) (search needs) (search needs) (search needs)
+    (λ c. let after-put-dropped : tie.After-put-dropped = search in let after-put-tightened : tie.After-put-tightened = search in
+    let after-put-fixed : tie.After-put-fixed = search in let after-put-queued = after-put-dropped .before .before .before .before in
+    let start = after-put-queued .before .before .before in clear-end (numbersOf (start .args .s) (start .args .m .now)) (after-put-queued .put-queued .ensures)
+    (after-put-dropped .put-dropped .ensures) (after-put-tightened .put-tightened .ensures) (after-put-fixed .put-fixed .ensures)
+    (c .before .before .before .before .before .before .put-rewrote .ensures) (c .before .before .put-passes .ensures)))

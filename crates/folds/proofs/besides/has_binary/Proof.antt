@@ -8,31 +8,11 @@ use Rattle.space.specs.Store.{numbersOf}
 use borrow.Author.Needs.{needs}
 use Rattle.folds.proofs.besides.has_binary.Statement.{statement}
 use Rattle.folds.proofs.besides.has_binary.Tie as tie
-use Rattle.folds.proofs.besides.has_binary.Reads as reads
-use Rattle.folds.proofs.besides.has_binary.Lts as lts
-use Rattle.folds.proofs.besides.has_among.Reads as has-among-reads
-use Rattle.space.proofs.get_binaries.Reads as get-binaries-reads
-
--- src/besides.rt:36:13
-mul-a : tie.Need-mul-a
-mul-a c = search needs
-
--- src/besides.rt:36:13
-shared-slice-read-a : tie.Need-shared-slice-read-a
-shared-slice-read-a c = omega (arith, c .before .before .before .pre .0 .0, spans-long (c .before .before .before .pre .0 .0) (c .before .before .before .pre .1 .standing))
-
--- src/besides.rt:37:9
-get-binaries-requires : tie.Need-get-binaries-requires
-get-binaries-requires c κs = search needs
-
--- src/besides.rt:38:5
-has-among-requires : tie.Need-has-among-requires
-has-among-requires c κs = (omega (arith, binaries-in (c .before .before .before .before .pre .0 .0) (c .before .before .before .before .pre .1 .standing), c .get-binaries .ensures), c .before .before .before .before .pre .0 .1)
-
--- src/besides.rt:31:1
-returns : tie.Need-returns
-returns c = has-binary-end (numbersOf (c .before .before .before .before .before .args .s) (c .before .before .before .before .before .args .m .now)) (c .before .before .before .before .before .args .v) (c .before .before .before .before .before .pre .0 .0) (binary-length _ _ (c .before .before .before .before .before .pre .0 .1)) refl (c .before .get-binaries .ensures) (c .has-among .ensures)
 
 pub has-binary-spec : {M : Type 1} → statement M
-has-binary-spec =
-    tie.close (tie.spec mul-a shared-slice-read-a get-binaries-requires has-among-requires returns)
+has-binary-spec = tie.close (tie.spec (search needs) (λ c. let start : tie.Start = search in
+    omega (arith, start .pre .0 .0, spans-long (start .pre .0 .0) (start .pre .1 .standing))) (search needs)
+    (λ c κs. let start : tie.Start = search in
+    (omega (arith, binaries-in (start .pre .0 .0) (start .pre .1 .standing), c .get-binaries .ensures), search needs))
+    (λ c. let start : tie.Start = search in has-binary-end (numbersOf (start .args .s) (start .args .m .now)) (start .args .v) (start .pre .0 .0)
+    (binary-length _ _ (start .pre .0 .1)) refl (c .before .get-binaries .ensures) (c .has-among .ensures)))

@@ -4,13 +4,6 @@ use Rattle.definition.specs.Model.{rangeMin}
 use Rattle.formulas.proofs.activity.range_min.Statement.{statement}
 use Rattle.formulas.proofs.activity.range_min.Tie as tie
 
-returns : tie.Need-returns
-unfolding rangeMin choose
-returns c = simp (c .if1 .taken)
-
-returns-2 : tie.Need-returns-2
-unfolding rangeMin choose
-returns-2 c = simp (c .if1 .left)
-
 pub range-min-spec : {M : Type 1} → statement M
-range-min-spec = tie.close (tie.spec returns returns-2)
+unfolding rangeMin choose
+range-min-spec = tie.close (tie.spec (λ c. simp (c .if1 .taken)) (λ c. simp (c .if1 .left)))

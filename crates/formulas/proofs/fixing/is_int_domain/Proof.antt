@@ -4,9 +4,6 @@ use Rattle.formulas.specs.Fixing.{intDomain}
 use Rattle.formulas.proofs.fixing.is_int_domain.Statement.{statement}
 use Rattle.formulas.proofs.fixing.is_int_domain.Tie as tie
 
-returns : tie.Need-returns
-unfolding intDomain
-returns c = refl
-
 pub is-int-domain-spec : {M : Type 1} → statement M
-is-int-domain-spec = tie.close (tie.spec returns)
+unfolding intDomain
+is-int-domain-spec = tie.close (tie.spec (λ c. refl))

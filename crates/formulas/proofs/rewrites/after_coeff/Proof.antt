@@ -4,32 +4,8 @@ use Rattle.definition.specs.Rewrites.{actAfter}
 use Rattle.formulas.proofs.rewrites.after_coeff.Statement.{statement}
 use Rattle.formulas.proofs.rewrites.after_coeff.Tie as tie
 
-enum-told : tie.Need-enum-told
-enum-told c = search needs
-
-with-l-requires : tie.Need-with-l-requires
-with-l-requires c κs = search needs
-
-enum-told-2 : tie.Need-enum-told-2
-enum-told-2 c = search needs
-
-with-u-requires : tie.Need-with-u-requires
-with-u-requires c κs = search needs
-
-enum-told-3 : tie.Need-enum-told-3
-enum-told-3 c = search needs
-
-returns : tie.Need-returns
-unfolding actAfter
-returns c = simp (c .before .before .enum-told .given .1) (c .with-l .ensures)
-
-returns-2 : tie.Need-returns-2
-unfolding actAfter
-returns-2 c = simp (c .before .before .enum-told2 .given .1) (c .with-u .ensures)
-
-returns-3 : tie.Need-returns-3
-unfolding actAfter
-returns-3 c = simp (c .enum-told3 .given .1)
-
 pub after-coeff-spec : {M : Type 1} → statement M
-after-coeff-spec = tie.close (tie.spec enum-told with-l-requires enum-told-2 with-u-requires enum-told-3 returns returns-2 returns-3)
+unfolding actAfter
+after-coeff-spec = tie.close (tie.spec (λ c. search needs) (λ c κs. search needs) (λ c. search needs) (λ c κs. search needs) (λ c. search needs)
+    (λ c. simp (c .before .before .enum-told .given .1) (c .with-l .ensures)) (λ c. simp (c .before .before .enum-told2 .given .1) (c .with-u .ensures))
+    (λ c. search needs))

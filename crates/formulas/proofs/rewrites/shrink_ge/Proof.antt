@@ -4,17 +4,7 @@ use Rattle.definition.specs.Rewrites.{shrinkGe}
 use Rattle.formulas.proofs.rewrites.shrink_ge.Statement.{statement}
 use Rattle.formulas.proofs.rewrites.shrink_ge.Tie as tie
 
-returns : tie.Need-returns
-unfolding shrinkGe choose
-returns c = record { of = λ M e. simp (e, c .before .if1 .taken, c .if2 .taken) }
-
-returns-2 : tie.Need-returns-2
-unfolding shrinkGe choose
-returns-2 c = record { of = λ M e. simp (e, c .before .if1 .taken, c .if2 .left) }
-
-returns-3 : tie.Need-returns-3
-unfolding shrinkGe choose
-returns-3 c = record { of = λ M e. simp (e, c .if1 .left) }
-
 pub shrink-ge-spec : {M : Type 1} → statement M
-shrink-ge-spec = tie.close (tie.spec returns returns-2 returns-3)
+unfolding shrinkGe choose
+shrink-ge-spec = tie.close (tie.spec (λ c. record { of = λ M e. simp (e, c .before .if1 .taken, c .if2 .taken) })
+    (λ c. record { of = λ M e. simp (e, c .before .if1 .taken, c .if2 .left) }) (λ c. record { of = λ M e. simp (e, c .if1 .left) }))

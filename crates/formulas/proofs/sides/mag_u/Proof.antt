@@ -4,12 +4,6 @@ use Rattle.definition.specs.Sides.{magU}
 use Rattle.formulas.proofs.sides.mag_u.Statement.{statement}
 use Rattle.formulas.proofs.sides.mag_u.Tie as tie
 
-rhs-mag-requires : tie.Need-rhs-mag-requires
-rhs-mag-requires c κs = search needs
-
-returns : tie.Need-returns
-unfolding magU
-returns c = cc
-
 pub mag-u-spec : {M : Type 1} → statement M
-mag-u-spec = tie.close (tie.spec rhs-mag-requires returns)
+unfolding magU
+mag-u-spec = tie.close (tie.spec (search needs) (λ c. cc))

@@ -5,19 +5,8 @@ use Rattle.definition.specs.Sides.{withinBy}
 use Rattle.formulas.proofs.sides.within_by.Statement.{statement}
 use Rattle.formulas.proofs.sides.within_by.Tie as tie
 
-within-lo-requires : tie.Need-within-lo-requires
-within-lo-requires c κs = search needs
-
-within-hi-requires : tie.Need-within-hi-requires
-within-hi-requires c κs = search needs
-
-returns : tie.Need-returns
-unfolding withinBy
-returns c = simp (sym (c .before .before .before .within-lo .ensures) ∙ c .before .before .if1 .taken) (c .within-hi .ensures)
-
-returns-2 : tie.Need-returns-2
-unfolding withinBy
-returns-2 c = simp (sym (c .before .within-lo .ensures) ∙ c .if1 .left)
-
 pub within-by-spec : {M : Type 1} → statement M
-within-by-spec = tie.close (tie.spec within-lo-requires within-hi-requires returns returns-2)
+unfolding withinBy
+within-by-spec = tie.close (tie.spec (search needs) (search needs)
+    (λ c. simp (sym (c .before .before .before .within-lo .ensures) ∙ c .before .before .if1 .taken) (c .within-hi .ensures))
+    (λ c. simp (sym (c .before .within-lo .ensures) ∙ c .if1 .left)))

@@ -5,24 +5,8 @@ use borrow.Author.Needs.{needs}
 use Rattle.model_file.proofs.numbers.u64_at.Statement.{statement}
 use Rattle.model_file.proofs.numbers.u64_at.Tie as tie
 
-u32-at-requires : tie.Need-u32-at-requires
-u32-at-requires c κs = search needs
-
-add-u32-at : tie.Need-add-u32-at
-add-u32-at c = search needs
-
-u32-at-requires-2 : tie.Need-u32-at-requires-2
-u32-at-requires-2 c κs = search needs
-
-mul-result : tie.Need-mul-result
-mul-result c = search needs
-
-add-result : tie.Need-add-result
-add-result c = search needs
-
-returns : tie.Need-returns
-returns c = record { value = omega (arith, c .before .u32-at .ensures .value, c .u32-at2 .ensures .value, eight-value (c .before .before .before .args .at) (c .before .before .before .args .s .now)); small = omega arith }
-
 pub u64-at-spec : {M : Type 1} → statement M
-u64-at-spec =
-    tie.close (tie.spec u32-at-requires add-u32-at u32-at-requires-2 mul-result add-result returns)
+u64-at-spec = tie.close (tie.spec (search needs) (search needs) (search needs) (search needs) (search needs) (λ c. let start : tie.Start = search in record {
+  value = omega (arith, c .before .u32-at .ensures .value, c .u32-at2 .ensures .value, eight-value (start .args .at) (start .args .s .now));
+  small = omega arith;
+}))

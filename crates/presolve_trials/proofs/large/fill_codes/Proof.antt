@@ -13,37 +13,6 @@ Inv-loop s₀ from code i₀ s i = length s ≡ length s₀
 abbrev μ-loop : tie.MeasureT-loop
 μ-loop s₀ from code i₀ s i = length s - i
 
-loop-holds : tie.Need-loop-holds Inv-loop μ-loop
-loop-holds c = search needs
-
-slice-write-s : tie.Need-slice-write-s Inv-loop μ-loop
-slice-write-s c = search needs
-
-add-i : tie.Need-add-i Inv-loop μ-loop
-add-i c = search needs
-
-loop-less : tie.Need-loop-less Inv-loop μ-loop
-loop-less c = simp length-set (omega (arith, c .loop-test))
-
-loop-again : tie.Need-loop-again Inv-loop μ-loop
-loop-again c = simp length-set (c .before .loop .inv)
-
-same-length : tie.Need-same-length Inv-loop μ-loop
-same-length c = search needs
-
-returns : tie.Need-returns Inv-loop μ-loop
-returns c = search needs
-
 pub fill-codes-spec : {M : Type 1} → statement M
-fill-codes-spec =
-    tie.close
-    (tie.spec
-    Inv-loop
-    μ-loop
-    loop-holds
-    slice-write-s
-    add-i
-    loop-less
-    loop-again
-    same-length
-    returns)
+fill-codes-spec = tie.close (tie.spec Inv-loop μ-loop (search needs) (search needs) (search needs) (λ c. simp length-set (omega (arith, c .loop-test)))
+    (λ c. simp length-set (c .before .loop .inv)) (search needs) (search needs))

@@ -1,6 +1,5 @@
 -- `index_large` finds the first place where its test holds. The invariant: it holds nowhere before.
 use Prim.Native.Nat.{_-_}
-use native.Mathlib.Omega.{arith}
 use lib.Dec.{leb}
 use lib.ListN.{length, getD}
 use borrow.Author.Tests.{le-leb, lt-leb}
@@ -15,41 +14,6 @@ Inv-loop index vars k₀ k = Passed (λ j. leb vars (getD index j 0)) (length in
 abbrev μ-loop : tie.MeasureT-loop
 μ-loop index vars k₀ k = length index - k
 
-loop-holds : tie.Need-loop-holds Inv-loop μ-loop
-loop-holds c = start _ _
-
-mul-if1 : tie.Need-mul-if1 Inv-loop μ-loop
-mul-if1 c = search needs
-
-shared-slice-read-if1 : tie.Need-shared-slice-read-if1 Inv-loop μ-loop
-shared-slice-read-if1 c = search needs
-
-returns : tie.Need-returns Inv-loop μ-loop
-returns c = found _ _ _ (omega (arith, c .before .before .loop-test)) (le-leb _ _ (c .if1 .taken))
-
-add-k : tie.Need-add-k Inv-loop μ-loop
-add-k c = search needs
-
-loop-less : tie.Need-loop-less Inv-loop μ-loop
-loop-less c = search needs
-
-loop-again : tie.Need-loop-again Inv-loop μ-loop
-loop-again c = turn (c .before .before .before .loop .inv) (omega (arith, c .before .before .loop-test)) (lt-leb _ _ (c .if1 .left))
-
-returns-2 : tie.Need-returns-2 Inv-loop μ-loop
-returns-2 c = end (c .before .loop .inv) (omega (arith, c .loop-test))
-
 pub index-large-spec : {M : Type 1} → statement M
-index-large-spec =
-    tie.close
-    (tie.spec
-    Inv-loop
-    μ-loop
-    loop-holds
-    mul-if1
-    shared-slice-read-if1
-    returns
-    add-k
-    loop-less
-    loop-again
-    returns-2)
+index-large-spec = tie.close (tie.spec Inv-loop μ-loop (λ c. start _ _) (search needs) (search needs)
+    (λ c. search (found, le-leb, needs)) (search needs) (search needs) (λ c. search (turn, lt-leb, needs)) (λ c. search (end, needs)))

@@ -5,12 +5,6 @@ use Rattle.definition.specs.Refusal.{lengthsDisagree}
 use Rattle.refuse.proofs.rows.lengths_disagree.Statement.{statement}
 use Rattle.refuse.proofs.rows.lengths_disagree.Tie as tie
 
-add-result : tie.Need-add-result
-add-result c = search needs
-
-returns : tie.Need-returns
-unfolding lengthsDisagree
-returns c = rw add-one
-
 pub lengths-disagree-spec : {M : Type 1} → statement M
-lengths-disagree-spec = tie.close (tie.spec add-result returns)
+unfolding lengthsDisagree
+lengths-disagree-spec = tie.close (tie.spec (search needs) (λ c. rw add-one))

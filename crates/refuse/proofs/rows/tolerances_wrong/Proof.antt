@@ -4,9 +4,6 @@ use Rattle.definition.specs.Refusal.{toleranceWrong, tolerancesWrong}
 use Rattle.refuse.proofs.rows.tolerances_wrong.Statement.{statement}
 use Rattle.refuse.proofs.rows.tolerances_wrong.Tie as tie
 
-returns : tie.Need-returns
-unfolding tolerancesWrong toleranceWrong
-returns c = refl
-
 pub tolerances-wrong-spec : {M : Type 1} → statement M
-tolerances-wrong-spec = tie.close (tie.spec returns)
+unfolding tolerancesWrong toleranceWrong
+tolerances-wrong-spec = tie.close (tie.spec (λ c. refl))

@@ -4,9 +4,6 @@ use Rattle.definition.specs.Refusal.{tooLarge}
 use Rattle.refuse.proofs.rows.too_large.Statement.{statement}
 use Rattle.refuse.proofs.rows.too_large.Tie as tie
 
-returns : tie.Need-returns
-unfolding tooLarge
-returns c = refl
-
 pub too-large-spec : {M : Type 1} → statement M
-too-large-spec = tie.close (tie.spec returns)
+unfolding tooLarge
+too-large-spec = tie.close (tie.spec (λ c. refl))

@@ -3,41 +3,7 @@ use Rattle.space.specs.Blocks.{foldScale-put}
 use borrow.Author.Needs.{needs}
 use Rattle.space.proofs.floats_at.put_fold_scale.Statement.{statement}
 use Rattle.space.proofs.floats_at.put_fold_scale.Tie as tie
-use Rattle.space.proofs.floats_at.put_fold_scale.Reads as reads
-use Rattle.space.proofs.floats_at.put_fold_scale.Lts as lts
-
--- src/floats_at.rt:117:7
-mul-w : tie.Need-mul-w
-mul-w c = search needs
-
--- src/floats_at.rt:117:18
-mul-w-2 : tie.Need-mul-w-2
-mul-w-2 c = search needs
-
--- src/floats_at.rt:117:7
-add-w : tie.Need-add-w
-add-w c = search needs
-
--- src/floats_at.rt:117:7
-add-w-2 : tie.Need-add-w-2
-add-w-2 c = search needs
-
--- src/floats_at.rt:117:5
-mul-w-3 : tie.Need-mul-w-3
-mul-w-3 c = search needs
-
--- src/floats_at.rt:117:5
-slice-write-w : tie.Need-slice-write-w
-slice-write-w c = search needs
-
--- src/floats_at.rt:112:1
-same-length : tie.Need-same-length
-same-length c = search needs
-
--- src/floats_at.rt:112:1
-returns : tie.Need-returns
-returns c = search foldScale-put
 
 pub put-fold-scale-spec : {M : Type 1} → statement M
-put-fold-scale-spec =
-    tie.close (tie.spec mul-w mul-w-2 add-w add-w-2 mul-w-3 slice-write-w same-length returns)
+put-fold-scale-spec = tie.close (tie.spec (λ c. search needs) (λ c. search needs) (λ c. search needs) (λ c. search needs) (λ c. search needs)
+    (λ c. search needs) (λ c. search needs) (λ c. search foldScale-put))

@@ -3,29 +3,6 @@ use Rattle.space.specs.Blocks.{dirty-at}
 use borrow.Author.Needs.{needs}
 use Rattle.space.proofs.numbers_at.get_dirty.Statement.{statement}
 use Rattle.space.proofs.numbers_at.get_dirty.Tie as tie
-use Rattle.space.proofs.numbers_at.get_dirty.Reads as reads
-use Rattle.space.proofs.numbers_at.get_dirty.Lts as lts
-
--- src/numbers_at.rt:135:11
-mul-result : tie.Need-mul-result
-mul-result c = search needs
-
--- src/numbers_at.rt:135:7
-add-result : tie.Need-add-result
-add-result c = search needs
-
--- src/numbers_at.rt:135:5
-mul-result-2 : tie.Need-mul-result-2
-mul-result-2 c = search needs
-
--- src/numbers_at.rt:135:5
-shared-slice-read-result : tie.Need-shared-slice-read-result
-shared-slice-read-result c = search needs
-
--- src/numbers_at.rt:131:1
-returns : tie.Need-returns
-returns c = search dirty-at
 
 pub get-dirty-spec : {M : Type 1} → statement M
-get-dirty-spec =
-    tie.close (tie.spec mul-result add-result mul-result-2 shared-slice-read-result returns)
+get-dirty-spec = tie.close (tie.spec (λ c. search needs) (λ c. search needs) (λ c. search needs) (λ c. search needs) (λ c. search dirty-at))

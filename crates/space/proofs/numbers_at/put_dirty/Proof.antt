@@ -3,32 +3,7 @@ use Rattle.space.specs.Blocks.{dirty-put}
 use borrow.Author.Needs.{needs}
 use Rattle.space.proofs.numbers_at.put_dirty.Statement.{statement}
 use Rattle.space.proofs.numbers_at.put_dirty.Tie as tie
-use Rattle.space.proofs.numbers_at.put_dirty.Reads as reads
-use Rattle.space.proofs.numbers_at.put_dirty.Lts as lts
-
--- src/numbers_at.rt:142:11
-mul-m : tie.Need-mul-m
-mul-m c = search needs
-
--- src/numbers_at.rt:142:7
-add-m : tie.Need-add-m
-add-m c = search needs
-
--- src/numbers_at.rt:142:5
-mul-m-2 : tie.Need-mul-m-2
-mul-m-2 c = search needs
-
--- src/numbers_at.rt:142:5
-slice-write-m : tie.Need-slice-write-m
-slice-write-m c = search needs
-
--- src/numbers_at.rt:138:1
-same-length : tie.Need-same-length
-same-length c = search needs
-
--- src/numbers_at.rt:138:1
-returns : tie.Need-returns
-returns c = search dirty-put
 
 pub put-dirty-spec : {M : Type 1} → statement M
-put-dirty-spec = tie.close (tie.spec mul-m add-m mul-m-2 slice-write-m same-length returns)
+put-dirty-spec = tie.close (tie.spec (λ c. search needs) (λ c. search needs) (λ c. search needs) (λ c. search needs) (λ c. search needs)
+    (λ c. search dirty-put))
