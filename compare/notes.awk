@@ -3,6 +3,7 @@
 #   crate::note(..)                   where Infeasible is returned: the counts that the Rust's own variables hold there
 #   crate::note_kept(r), note_out(r, rewritten)   where a row is kept for validation or put out: its number
 #   crate::number(PLACE, x)           x, counted where it is not a number: 1 a row's budget, 2 a row's sides and shift after a fold
+# The patterns are pieces of src/presolve/mod.rs, work.rs and src/solver/tolerances.rs of microlp 0.7.0, changed only by notes.
 # It rests on the text being laid out by rustfmt: an opening bracket that stays open ends its line, and a statement
 # begins a line. Kinds on the stack: "b" a block of statements, "o" anything else.
 function kind(text) {

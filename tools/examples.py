@@ -5,8 +5,8 @@ on and must print.
     tools/examples.py             writes the files
     tools/examples.py --check     says which files are not as they would be written; exit status 1 if there is one
 
-Written by hand: examples/day-NN.txt and examples/day-NN.expected, from the scope paper. From the reference, by
-`compare/run file`: examples/week/*.expected. Nothing is taken from a run of the port.
+Written by hand: the texts of TEXTS, and examples/day-NN.expected, from the scope paper. From the reference, by
+`compare/run file`: the other NAME.expected of a text. Nothing is taken from a run of the port.
 """
 import io
 import os
@@ -20,6 +20,9 @@ import week
 
 ROOT = os.path.normpath(os.path.join(os.path.dirname(os.path.abspath(__file__)), ".."))
 DAYS = ["day-%02d" % k for k in range(1, 13)]
+OUTSIDE = ["outside/" + name for name in ("largest-side", "last-sliver", "subnormal", "fold-overflows", "product-overflows")]
+BY_ONE = ["by-one/no-plan", "by-one/one-plan"]
+TEXTS = DAYS + OUTSIDE + BY_ONE
 WEEKS = ["two-boxes", "one-box"]
 PREFIXES = 7000  # every prefix is run of files up to this size, as in crates/run_examples/src/main.rt
 
@@ -46,8 +49,8 @@ def week_text(name):
 
 def examples():
     """Path below examples/ and content of every file there that is made of another."""
-    for day in DAYS:
-        yield day + ".model", encoded(content("examples", day + ".txt"))
+    for stem in TEXTS:
+        yield stem + ".model", encoded(content("examples", stem + ".txt"))
     for name in WEEKS:
         yield "week/%s.txt" % name, week_text(name)
         yield "week/%s.model" % name, encoded(week_text(name))

@@ -1,6 +1,7 @@
 #!/usr/bin/env python3
 """Models as text that a person can write, and answers as a table that a person can read.
 
+    ./presolve week.txt                                   the answer to a text at once, by its names
     tools/model.py encode < week.txt > week.model         text to model file
     tools/model.py decode < week.model                    model file to text
     ./presolve < week.model | tools/model.py explain week.txt
@@ -25,11 +26,13 @@ The text. A # starts a comment; settings come first, then the variables, then th
 Names are letters, digits, _ and dots, and do not start with a digit. A variable can also be named by its number, as @0.
 A term with coefficient 0 is kept; terms may come in any order and are written in the order of the variables.
 Numbers are decimal (the nearest float is meant), inf, nan, or bits:3ff0000000000000, the 16 digits that answers have.
--0 is not 0. In the file an objective or lower bound of 0, an open upper bound and a right side of 0 are left out.
+-0 is not 0. A boolean's bounds are 0 or 1; where a file has others, 'wide' after them says that they are meant. A text that presolve
+would refuse has a fault, which is named with its line. In the file an objective or lower bound of 0, an open upper bound and a right side of 0 are left out.
 
 Exit status: 0; 1 for a text, file or answer with a fault, which is named with its line; 2 for wrong usage.
 """
 import difflib
+import os
 import re
 import struct
 import sys
@@ -39,22 +42,8 @@ COMPARISONS = ["=", "<=", ">="]
 MODES = ["lp", "mip", "mip-dual"]
 MOST = {"variables": 128, "rows": 128, "terms": 512}
 COUNTS = ["rows dropped", "bounds tightened", "variables fixed", "coefficients tightened", "passes"]
-REASONS = {
-    1: "slice lengths disagree",
-    2: "more than a maximum",
-    3: "row starts: first is not 0, one falls, or the last is not the term count",
-    4: "a term's index is too large, or not rising within its row",
-    5: "a domain, comparison or mode above 2",
-    6: "a bound is not a number, a lower bound is +infinity or an upper bound -infinity",
-    7: "an objective or coefficient is not finite",
-    8: "a right side is not a number, or infinite on the wrong side of its comparison",
-    9: "feasibility or int_tol is outside 0 to 0.5, or not a number",
-    10: "a result or working slice is too short",
-    11: "the file ends early",
-    12: "a reserved bit is set, or a code is above its range",
-    13: "bytes remain after the last row",
-    14: "more than 128 variables, 128 rows or 512 terms",
-}
+with open(os.path.join(os.path.dirname(os.path.abspath(__file__)), "refusals.txt"), encoding="utf-8") as _lines:
+    REASONS = {int(number): words for number, words in (line.rstrip("\n").split("\t") for line in _lines)}
 
 
 class Fault(Exception):
@@ -98,6 +87,11 @@ def show(bits):
     return repr(x)
 
 
+def shown(bits):
+    """The same for a person's eyes: a zero without its sign."""
+    return "0" if bits == SIGN else show(bits)
+
+
 NUMBER = r"(?:bits:[0-9a-f]{16}|inf|nan|(?:[0-9]+\.?[0-9]*|\.[0-9]+)(?:[eE][+-]?[0-9]+)?)"
 
 
@@ -125,29 +119,32 @@ def signed(text):
 
 # ---- a model
 class Variable:
-    def __init__(self, name, domain, objective=ZERO, lower=ZERO, upper=INF):
+    def __init__(self, name, domain, objective=ZERO, lower=ZERO, upper=INF, line=None):
         self.name, self.domain = name, domain
         self.objective, self.lower, self.upper = objective, lower, upper
+        self.line = line  # of the text that it was read from
 
 
 class Row:
-    def __init__(self, name, terms, cmp, rhs=ZERO):
+    def __init__(self, name, terms, cmp, rhs=ZERO, line=None):
         self.name, self.terms, self.cmp, self.rhs = name, terms, cmp, rhs
+        self.line = line
 
 
 class Model:
     def __init__(self, feasibility=bits_of(1e-6), int_tol=bits_of(1e-9), mode=1):
         self.feasibility, self.int_tol, self.mode = feasibility, int_tol, mode
         self.variables, self.rows = [], []
+        self.lines = {}  # of the settings of a text
 
 
 # ---- the model file
 class Refused(Exception):
-    """The number that a file is refused with while it is read."""
+    """The number that a file or a model is refused with, the place in words, and the line of the text, if it has one."""
 
-    def __init__(self, number):
+    def __init__(self, number, place, line=None):
         Exception.__init__(self, number)
-        self.number = number
+        self.number, self.place, self.line = number, place, line
 
 
 def float_bytes(bits):
@@ -179,97 +176,126 @@ def read_file(data):
     """The model that a file holds. Refused is raised at the first thing that is wrong, in reading order."""
     at = 0
 
-    def take(n):
+    def take(n, what):
         nonlocal at
         if len(data) - at < n:
-            raise Refused(11)
+            raise Refused(11, "byte %d, where the file ends: %s has %d byte%s from byte %d on" % (len(data), what, n, "s" * (n > 1), at))
         at += n
         return data[at - n : at]
 
-    def unsigned(n):
-        return int.from_bytes(take(n), "little")
+    def unsigned(n, what):
+        return int.from_bytes(take(n, what), "little")
 
-    def count(most, before=0):
-        n = unsigned(2)
-        if before + n > most:
-            raise Refused(14)
+    def count(kind, what, before=0):
+        n = unsigned(2, what)
+        if before + n > MOST[kind]:
+            raise Refused(14, "byte %d, %s: %d%s, and at most %d are read" % (at - 2, what, n, " after %d" % before if before else "", MOST[kind]))
         return n
 
-    def code(value, most):
+    def code(value, most, what):
         if value > most:
-            raise Refused(12)
+            raise Refused(12, "byte %d, %s: %d, and at most %d is right" % (at - 1, what, value, most))
         return value
 
-    variables = count(MOST["variables"])
-    rows = count(MOST["rows"])
-    m = Model(unsigned(8), unsigned(8), code(unsigned(1), 2))
+    def bitmap(most, of):
+        found = unsigned(1, "the bit map of %s" % of)
+        if found > most:
+            raise Refused(12, "byte %d, the bit map of %s: a reserved bit is set in %#04x" % (at - 1, of, found))
+        return found
+
+    variables = count("variables", "the count of variables")
+    rows = count("rows", "the count of rows")
+    feasibility, int_tol = unsigned(8, "feasibility"), unsigned(8, "int_tol")
+    m = Model(feasibility, int_tol, code(unsigned(1, "the mode"), 2, "the mode"))
     for k in range(variables):
-        bitmap = code(unsigned(1), 31)
-        v = Variable("x%d" % k, code(bitmap >> 3 & 3, 2))
-        if bitmap & 1:
-            v.objective = unsigned(8)
-        if bitmap & 2:
-            v.lower = unsigned(8)
-        if bitmap & 4:
-            v.upper = unsigned(8)
+        of = "variable %d" % k
+        bits = bitmap(31, of)
+        v = Variable("x%d" % k, code(bits >> 3, 2, "the domain of %s" % of))
+        if bits & 1:
+            v.objective = unsigned(8, "the objective of %s" % of)
+        if bits & 2:
+            v.lower = unsigned(8, "the lower bound of %s" % of)
+        if bits & 4:
+            v.upper = unsigned(8, "the upper bound of %s" % of)
         m.variables.append(v)
     terms = 0
     for k in range(rows):
-        bitmap = code(unsigned(1), 7)
-        r = Row("r%d" % k, [], code(bitmap & 3, 2))
-        if bitmap & 4:
-            r.rhs = unsigned(8)
-        n = count(MOST["terms"], terms)
+        of = "row %d" % k
+        bits = bitmap(7, of)
+        r = Row("r%d" % k, [], code(bits & 3, 2, "the comparison of %s" % of))
+        if bits & 4:
+            r.rhs = unsigned(8, "the right side of %s" % of)
+        n = count("terms", "the count of terms of %s" % of, terms)
         terms += n
-        for _ in range(n):
-            index = unsigned(2)
-            r.terms.append((index, unsigned(8)))
+        for t in range(n):
+            index = unsigned(2, "the index of term %d of %s" % (t, of))
+            r.terms.append((index, unsigned(8, "the coefficient of term %d of %s" % (t, of))))
         m.rows.append(r)
     if at < len(data):
-        raise Refused(13)
+        raise Refused(13, "byte %d: the last row ends before it" % at)
     return m
 
 
-def refusal_of_model(m):
-    """The number that presolve refuses a model with that a file can hold, or 0: the table's rows from 4 on that can apply."""
+def refused_model(m):
+    """The first row of the table, from 4 on, that applies to a model that a file can hold, as Refused; or None."""
 
-    def unordered(r):
-        indices = [i for i, _ in r.terms]
-        return any(i >= len(m.variables) for i in indices) or any(b <= a for a, b in zip(indices, indices[1:]))
+    def variable(k):
+        return "variable %d%s" % (k, "" if m.variables[k].line is None else " (%s)" % m.variables[k].name)
 
-    def wrong_bounds(v):
-        return is_nan(v.lower) or is_nan(v.upper) or v.lower == INF or v.upper == INF | SIGN
+    def row(k):
+        return "row %d%s" % (k, "" if m.rows[k].line is None else " (%s)" % m.rows[k].name)
 
-    def wrong_side(r):
-        open_side = {0: None, 1: INF, 2: INF | SIGN}[r.cmp]
-        return not is_finite(r.rhs) and r.rhs != open_side
+    for k, r in enumerate(m.rows):
+        last = -1
+        for t, (index, _) in enumerate(r.terms):
+            if index >= len(m.variables) or index <= last:
+                why = "there are %d variables" % len(m.variables) if index >= len(m.variables) else "the one before it is %d" % last
+                return Refused(4, "%s, term %d: index %d, and %s" % (row(k), t, index, why), r.line)
+            last = index
+    for k, v in enumerate(m.variables):
+        for side, bits, wrong in (("lower", v.lower, INF), ("upper", v.upper, INF | SIGN)):
+            if is_nan(bits) or bits == wrong:
+                return Refused(6, "%s, its %s bound is %s" % (variable(k), side, show(bits)), v.line)
+    for k, v in enumerate(m.variables):
+        if not is_finite(v.objective):
+            return Refused(7, "%s, its objective is %s" % (variable(k), show(v.objective)), v.line)
+    for k, r in enumerate(m.rows):
+        for t, (_, coeff) in enumerate(r.terms):
+            if not is_finite(coeff):
+                return Refused(7, "%s, term %d: its coefficient is %s" % (row(k), t, show(coeff)), r.line)
+    for k, r in enumerate(m.rows):
+        if not is_finite(r.rhs) and r.rhs != {0: None, 1: INF, 2: INF | SIGN}[r.cmp]:
+            return Refused(8, "%s, its right side is %s after %s" % (row(k), show(r.rhs), COMPARISONS[r.cmp]), r.line)
+    for name in ("feasibility", "int_tol"):
+        bits = getattr(m, name)
+        if is_nan(bits) or not 0.0 <= float_of(bits) <= 0.5:
+            return Refused(9, "%s is %s" % (name, show(bits)), m.lines.get(name))
+    return None
 
-    def wrong_tolerance(t):
-        return is_nan(t) or not 0.0 <= float_of(t) <= 0.5
 
-    numbers = [v.objective for v in m.variables] + [a for r in m.rows for _, a in r.terms]
-    checks = [
-        (4, any(map(unordered, m.rows))),
-        (6, any(map(wrong_bounds, m.variables))),
-        (7, not all(map(is_finite, numbers))),
-        (8, any(map(wrong_side, m.rows))),
-        (9, wrong_tolerance(m.feasibility) or wrong_tolerance(m.int_tol)),
-    ]
-    return next((n for n, applies in checks if applies), 0)
+def refused_file(data):
+    """What a file is refused with, as Refused; or None."""
+    try:
+        return refused_model(read_file(data))
+    except Refused as r:
+        return r
 
 
 def refusal(data):
     """The number that a file is refused with, or 0."""
-    try:
-        return refusal_of_model(read_file(data))
-    except Refused as r:
-        return r.number
+    found = refused_file(data)
+    return found.number if found else 0
 
 
 # ---- text to model
 NAME = r"[A-Za-z_][A-Za-z0-9_.]*"
-WORDS = {"to", "objective", "inf", "nan"}
+WORDS = {"to", "wide", "objective", "inf", "nan"}
 TOKEN = re.compile(r"\s*(?:(?P<number>%s)(?![A-Za-z0-9_.])|(?P<var>%s|@[0-9]+)|(?P<sign>[-+*]))" % (NUMBER, NAME))
+
+
+def odd_bound(v):
+    """A bound of a boolean that is neither 0 nor 1, or None."""
+    return next((b for b in (v.lower, v.upper) if v.domain == 2 and float_of(b) not in (0.0, 1.0)), None)
 
 
 class Reader:
@@ -281,17 +307,26 @@ class Reader:
         self.row_names = set()
         self.part = "settings"
         self.seen = set()
+        self.at = 0
 
     def read(self, lines):
         for at, line in enumerate(lines, 1):
             words = line.split("#")[0].strip()
             if not words:
                 continue
+            self.at = at
             try:
                 self.line(words)
             except Fault as fault:
                 raise Fault("line %d: %s" % (at, fault)) from None
+        if self.part == "settings":
+            ends = max(1, len(lines) - (lines[-1] == ""))
+            raise Fault("line %d: the text ends, and there is no line 'variables' in it" % ends)
         self.sizes()
+        found = refused_model(self.model)
+        if found:
+            line = "" if found.line is None else "line %d: " % found.line
+            raise Fault("%s%s: %s (presolve refuses it with %d)" % (line, REASONS[found.number], found.place, found.number))
         return self.model
 
     def line(self, words):
@@ -315,6 +350,7 @@ class Reader:
         if words[0] in self.seen:
             raise Fault("%s is given twice" % words[0])
         self.seen.add(words[0])
+        self.model.lines[words[0]] = self.at
         if words[0] == "mode":
             if words[1] not in MODES:
                 raise Fault("the mode is one of %s, and not '%s'" % (", ".join(MODES), words[1]))
@@ -337,12 +373,17 @@ class Reader:
             raise Fault("the variable %s is there already" % name)
         if not words or words[0] not in DOMAINS:
             raise Fault("%s, where DOMAIN is integer, real or boolean" % form)
-        v = Variable(name, DOMAINS.index(words.pop(0)))
+        v = Variable(name, DOMAINS.index(words.pop(0)), line=self.at)
         if v.domain == 2:
             v.upper = bits_of(1.0)
         if len(words) >= 3 and words[1] == "to":
             v.lower, v.upper = self.value(words[0]), self.value(words[2])
             words = words[3:]
+            odd = odd_bound(v)
+            if words[:1] == ["wide"] and odd is not None:
+                words = words[1:]
+            elif odd is not None:
+                raise Fault("%s is no bound of a boolean, which is 0 or 1; 'wide' after the bounds says that it is meant" % show(odd))
         if len(words) >= 2 and words[0] == "objective":
             v.objective = self.value(words[1])
             words = words[2:]
@@ -364,7 +405,7 @@ class Reader:
             raise Fault("expected one <=, >= or = in a row, as 'cap: 2 p + 3 u <= 7'")
         rhs = self.value(sides[2].strip())
         self.row_names.add(name)
-        self.model.rows.append(Row(name, self.terms(sides[0].strip()), COMPARISONS.index(sides[1]), rhs))
+        self.model.rows.append(Row(name, self.terms(sides[0].strip()), COMPARISONS.index(sides[1]), rhs, self.at))
 
     def number_of(self, word):
         if word.startswith("@"):
@@ -427,11 +468,11 @@ class Reader:
         }
         for kind, n in here.items():
             if n > MOST[kind]:
-                raise Fault("%d %s; a model file has at most %d" % (n, kind, MOST[kind]))
+                raise Fault("line %d: %d %s; a model file has at most %d" % (self.at, n, kind, MOST[kind]))
 
 
 def read_text(text):
-    return Reader().read(text.splitlines())
+    return Reader().read(text.lstrip("\ufeff").split("\n"))
 
 
 # ---- model to text
@@ -458,7 +499,8 @@ def write_text(m):
     lines += ["", "variables"]
     for v in m.variables:
         objective = " objective %s" % show(v.objective) if v.objective != ZERO else ""
-        lines.append("  %s %s %s to %s%s" % (v.name, DOMAINS[v.domain], show(v.lower), show(v.upper), objective))
+        wide = " wide" if odd_bound(v) is not None else ""
+        lines.append("  %s %s %s to %s%s%s" % (v.name, DOMAINS[v.domain], show(v.lower), show(v.upper), wide, objective))
     lines += ["", "rows"]
     lines += ["  %s: %s" % (r.name, row_text(m, r)) for r in m.rows]
     return "\n".join(lines) + "\n"
@@ -543,13 +585,13 @@ def table(rows):
 
 def explain_bounds(m, a):
     def interval(lower, upper):
-        return "%s to %s" % (show(lower), show(upper))
+        return "%s to %s" % (shown(lower), shown(upper))
 
     lines = []
     for v, (lower, upper) in zip(m.variables, a.bounds):
         if float_of(lower) == float_of(v.lower) and float_of(upper) == float_of(v.upper):
             continue
-        now = "= %s" % show(lower) if float_of(lower) == float_of(upper) else interval(lower, upper)
+        now = "= %s" % shown(lower) if float_of(lower) == float_of(upper) else interval(lower, upper)
         lines.append((v.name, interval(v.lower, v.upper), "->", now))
     title = "bounds that changed: %d of %d variables" % (len(lines), len(m.variables))
     return [title] + (table(lines) if lines else [])
@@ -620,15 +662,11 @@ def model_at(path):
 def main(words):
     try:
         if words == ["encode"]:
-            m = read_text(sys.stdin.read())
-            n = refusal_of_model(m)
-            if n:
-                sys.stderr.write("model.py: written, but presolve refuses it with %d: %s\n" % (n, REASONS[n]))
-            sys.stdout.buffer.write(write_file(m))
+            sys.stdout.buffer.write(write_file(read_text(sys.stdin.read())))
         elif words == ["decode"]:
             m = read_file(sys.stdin.buffer.read())
-            n = refusal_of_model(m)
-            sys.stdout.write(("# refused with %d: %s\n" % (n, REASONS[n]) if n else "") + write_text(m))
+            found = refused_model(m)
+            sys.stdout.write(("# refused with %d: %s: %s\n" % (found.number, REASONS[found.number], found.place) if found else "") + write_text(m))
         elif len(words) == 2 and words[0] == "explain":
             m = model_at(words[1])
             sys.stdout.write("\n".join(explain(m, read_answer(sys.stdin.read()))) + "\n")
@@ -641,7 +679,7 @@ def main(words):
         sys.stderr.write("model.py: %s\n" % fault)
         return 1
     except Refused as r:
-        sys.stderr.write("model.py: this is no model file that can be read: %d, %s\n" % (r.number, REASONS[r.number]))
+        sys.stderr.write("model.py: this is no model file that can be read: %d, %s: %s\n" % (r.number, REASONS[r.number], r.place))
         return 1
     except (OSError, UnicodeDecodeError) as error:
         sys.stderr.write("model.py: %s\n" % error)

@@ -1,6 +1,6 @@
 // How often each line of the reference ran, and what that says of each reduction and each infeasible exit. Line numbers are
 // those of microlp 0.7.0's files: 1 presolve/mod.rs, 2 presolve/work.rs, 3 presolve/model.rs, 4 solver/tolerances.rs,
-// 5 solver/proof.rs, times 10,000.
+// 5 solver/proof.rs, times 10,000. Of their text only names of functions stand here.
 include!("../target/places.rs");
 
 const FILES: [&str; 6] = ["", "presolve/mod.rs", "presolve/work.rs", "presolve/model.rs", "solver/tolerances.rs", "solver/proof.rs"];

@@ -1,5 +1,6 @@
 //! The root of the crate that the reference's own text is compiled in: stand-ins for what presolve uses of microlp besides
-//! itself (the sparse vector, the codes, the error, the clock, the log), a way in, and where the notes go.
+//! itself (the sparse vector, the codes, the error, the clock, the log), a way in, and where the notes go. Names are those of
+//! src/lib.rs, src/problem.rs and src/expr.rs of microlp 0.7.0 and of the crates it uses, changed: only what presolve calls.
 #![allow(dead_code, unused_imports, unused_variables, unused_braces, unreachable_code, clippy::all)]
 
 // `web_time::Instant` is found here: the clock stands still.
