@@ -5,6 +5,8 @@
 // leave no point. A variable whose bounds change queues its rows again.
 // The state is what the working slices hold, and each contract says that they show the definition's
 // next state (view, specs/Acts).
+#![tactic(auto)]
+
 mod bounds;
 mod marks;
 

@@ -4,6 +4,8 @@
 // coefficients, in compensated arithmetic, and rounded outward: the working side is off by the
 // round-off of folds and rewrites, and the emitted row must be no tighter than the row as written where
 // its rewritten binaries are at one.
+#![tactic(auto)]
+
 mod bindings;
 mod tighten;
 

@@ -1,9 +1,11 @@
 // src/presolve/model.rs of microlp 0.7.0, changed: the records that go by value, shared by the code
 // and the definition in specs/. Fields are in camel case so that definitions name them unquoted.
 
+#![tactic(auto)]
+
 // A row's activity over a box: the smallest and the largest sum, how many terms are infinite on each
 // side, the magnitudes summed at each corner, and how far the bound tolerances reach beyond it.
-#[derive(Drop)]
+#[derive(Clone, Copy)]
 pub struct Activity {
     pub l: f64,
     pub u: f64,
@@ -16,7 +18,7 @@ pub struct Activity {
 }
 
 // `PresolveStats`: the five counts.
-#[derive(Drop)]
+#[derive(Clone, Copy)]
 pub struct Counts {
     pub rowsDropped: usize,
     pub boundsTightened: usize,

@@ -3,6 +3,8 @@
 // fates that `output` judges. A row that is not rewritten goes out as written, fixed terms included,
 // since folded it would have a smaller magnitude and so a tighter tolerance than it is granted; a
 // rewritten one gets its folded terms back for the same reason.
+#![tactic(auto)]
+
 mod bounds;
 mod entries;
 mod fates;

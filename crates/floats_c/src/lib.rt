@@ -1,4 +1,6 @@
 // floats' floor and ceil, exported to C: bench/floor_bench.c times them beside the C library's.
+#![tactic(auto)]
+
 ghost use Rattle.std.specs.Prelude.{◌≡◌};
 ghost use Rattle.floats.specs.Num as num;
 

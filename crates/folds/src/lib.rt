@@ -4,6 +4,8 @@
 // row's sides; its magnitude stays part of the row's tolerance. A rewritten row is relaxed further with
 // each term that is fixed, and goes back as written where that leaves it no finite side: a rewrite only
 // tightens the row for values that are not whole. The row stands in the working slices.
+#![tactic(auto)]
+
 mod besides;
 mod folding;
 mod holding;

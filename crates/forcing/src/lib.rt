@@ -4,6 +4,8 @@
 // variable at that end of its range. To fix it there is exact for an integer variable with no other
 // whole number in the room that the row leaves it; so all terms are tested first, and all are fixed or
 // none.
+#![tactic(auto)]
+
 mod fixing;
 mod tests;
 

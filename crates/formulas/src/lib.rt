@@ -2,6 +2,8 @@
 // and records alone, each float operation once and in the Rust's order.
 // No slice is read or written. Each contract is an equation with a function of the definition, on every
 // input; the definition's files say why each step is right.
+#![tactic(auto)]
+
 mod activity;
 mod begin;
 mod bounds;
@@ -34,7 +36,7 @@ pub use singles::{lower_meets, lower_side, misses, new_lower, new_upper, upper_m
 
 // What a row's formulas look at, by value: its two sides, the magnitude of the terms folded out of
 // it, and their sum. Fields are in camel case so that definitions name them unquoted.
-#[derive(Drop)]
+#[derive(Clone, Copy)]
 pub struct Limits {
     pub lo: f64,
     pub hi: f64,
@@ -44,7 +46,7 @@ pub struct Limits {
 
 // One side of a row: its bound, and the activity's sum, infinite terms, magnitude and slack at the
 // corner that meets it.
-#[derive(Drop)]
+#[derive(Clone, Copy)]
 pub struct Side {
     pub bound: f64,
     pub sum: f64,
@@ -54,14 +56,14 @@ pub struct Side {
 }
 
 // The rest of a row at a corner: its sum, or none where a term of it is infinite.
-#[derive(Drop)]
+#[derive(Clone, Copy)]
 pub enum Rest {
     Sum(f64),
     Unbounded,
 }
 
 // What an implied bound does: it leaves the variable alone, stops presolve, or tightens.
-#[derive(Drop)]
+#[derive(Clone, Copy)]
 pub enum Move {
     Leave,
     Stop,
@@ -69,7 +71,7 @@ pub enum Move {
 }
 
 // Which side a row's one finite bound is on.
-#[derive(Drop)]
+#[derive(Clone, Copy)]
 pub enum Form {
     Le,
     Ge,
@@ -78,7 +80,7 @@ pub enum Form {
 
 // What a rewrite does: nothing; a new coefficient; or a new coefficient, the row's new bound before
 // its relaxation, and how far that moved.
-#[derive(Drop)]
+#[derive(Clone, Copy)]
 pub enum Rewrite {
     Keeps,
     Coeff(f64),

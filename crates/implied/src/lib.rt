@@ -5,6 +5,8 @@
 // within tolerance. The activity is the one from before the loop: looser than what the loop has
 // tightened since, so still valid. Most bounds change nothing, which is seen before what they are
 // relaxed by is computed.
+#![tactic(auto)]
+
 ghost use Rattle.std.specs.Prelude.{◌+◌, ◌-◌, ◌<◌, ◌≡◌, true, false, length, get_or};
 ghost use Rattle.std.proofs.Math.Option.{some};
 ghost use Rattle.floats.specs.Num.{choose};

@@ -1,5 +1,7 @@
 // The reader of the model file: bytes to a model's slices in lent space. specs/Format says what a file's
 // bytes mean, specs/Reading what is answered and written.
+#![tactic(auto)]
+
 mod fill;
 mod numbers;
 mod parts;
@@ -9,7 +11,7 @@ ghost use Rattle.std.specs.Prelude.{◌≡◌};
 ghost use Rattle.model_file.specs.Reading.{slices, out, read_into, room_vars, room_rows};
 
 // What a file says beside its lists, with their sizes.
-#[derive(Drop)]
+#[derive(Clone, Copy)]
 pub struct Header {
     pub vars: usize,
     pub rows: usize,
@@ -20,14 +22,14 @@ pub struct Header {
 }
 
 // A file read, or the refusal's number.
-#[derive(Drop)]
+#[derive(Clone, Copy)]
 pub enum FileRead {
     Refused(u8),
     Model(Header),
 }
 
 // A variable, a term and a row's head, as the file has them.
-#[derive(Drop)]
+#[derive(Clone, Copy)]
 pub struct Variable {
     pub objective: f64,
     pub lower: f64,
@@ -35,20 +37,20 @@ pub struct Variable {
     pub domain: u8,
 }
 
-#[derive(Drop)]
+#[derive(Clone, Copy)]
 pub struct Term {
     pub index: usize,
     pub coeff: f64,
 }
 
-#[derive(Drop)]
+#[derive(Clone, Copy)]
 pub struct RowHead {
     pub cmp: u8,
     pub rhs: f64,
     pub count: usize,
 }
 
-#[derive(Drop)]
+#[derive(Clone, Copy)]
 pub struct Settings {
     pub vars: usize,
     pub rows: usize,
@@ -58,44 +60,44 @@ pub struct Settings {
 }
 
 // What stands at a place, with the place after it, or the refusal's number.
-#[derive(Drop)]
+#[derive(Clone, Copy)]
 pub enum NumberRead {
     Refused(u8),
     Got(usize, usize),
 }
 
-#[derive(Drop)]
+#[derive(Clone, Copy)]
 pub enum FloatRead {
     Refused(u8),
     Got(f64, usize),
 }
 
-#[derive(Drop)]
+#[derive(Clone, Copy)]
 pub enum VariableRead {
     Refused(u8),
     Got(Variable, usize),
 }
 
-#[derive(Drop)]
+#[derive(Clone, Copy)]
 pub enum HeadRead {
     Refused(u8),
     Got(RowHead, usize),
 }
 
-#[derive(Drop)]
+#[derive(Clone, Copy)]
 pub enum TermRead {
     Refused(u8),
     Got(Term, usize),
 }
 
-#[derive(Drop)]
+#[derive(Clone, Copy)]
 pub enum SettingsRead {
     Refused(u8),
     Got(Settings, usize),
 }
 
 // The place after what was passed, or the refusal's number.
-#[derive(Drop)]
+#[derive(Clone, Copy)]
 pub enum Next {
     Refused(u8),
     At(usize),

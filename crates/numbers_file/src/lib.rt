@@ -1,6 +1,8 @@
 // A model file's bytes to the line that says whether its model is 01's farm model, for which the
 // promise about points is made, with a whole objective, which the one about the least objective asks
 // beside it. specs/Whole says what that line is.
+#![tactic(auto)]
+
 ghost use Rattle.std.specs.Prelude.{◌≡◌, length, take};
 ghost use Rattle.model_file.specs.Reading.{slices};
 ghost use Rattle.print_result.specs.Printing.{printed, outcome};

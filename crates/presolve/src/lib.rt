@@ -1,6 +1,8 @@
 // src/presolve/mod.rs of microlp 0.7.0, changed: `presolve` as one call over lent slices, and
 // `reduced_model` above it.
 // The refusals, the lent slices and the zeros that they are left with are the port's own.
+#![tactic(auto)]
+
 mod accepted;
 mod ending;
 
@@ -16,7 +18,7 @@ use refuse::{Lent, Refusal};
 
 // What a call answers: a refusal's number; infeasible, with the counts reached; or a model, which
 // stands in the result slices.
-#[derive(Drop)]
+#[derive(Clone, Copy)]
 pub enum Answer {
     Refused(u8),
     Infeasible(Counts),
@@ -24,7 +26,7 @@ pub enum Answer {
 }
 
 // `reduced_model`'s answer: a model is reduced only where it differs from the one handed in.
-#[derive(Drop)]
+#[derive(Clone, Copy)]
 pub enum SecondAnswer {
     Refused(u8),
     NoReducedModel,

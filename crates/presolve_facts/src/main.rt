@@ -1,6 +1,8 @@
 // Reads one model file on standard input and prints whether its model is 01's farm model, for which the
 // promise about points is made, with a whole objective: `numbers whole`, or `numbers`, the condition that
 // fails and its place. 8 is the objective, asked last: a model that is told to fail it is a farm model.
+#![tactic(auto)]
+
 use libc::STDOUT_FILENO;
 use presolve_file::{FILE_BYTES, TEXT_BYTES};
 

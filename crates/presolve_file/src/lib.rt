@@ -1,5 +1,7 @@
 // A model file's bytes to the text that is printed for it: the reader, presolve and the printer.
 // specs/Whole says what that text is.
+#![tactic(auto)]
+
 mod print;
 
 ghost use Rattle.std.specs.Prelude.{◌≡◌, length, take};

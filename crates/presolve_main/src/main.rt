@@ -1,4 +1,6 @@
 // Reads one model file on standard input, presolves its model and prints the answer.
+#![tactic(auto)]
+
 use libc::STDOUT_FILENO;
 use presolve_file::{FILE_BYTES, TEXT_BYTES};
 

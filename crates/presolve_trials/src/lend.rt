@@ -14,7 +14,7 @@ const MARK: u8 = 165;
 
 // The lent slices have `spare` entries more than needed, and hold `junk`. Of all of presolve's
 // slices, the model's nine first, the one numbered `short` has one entry less; 22 is none.
-#[derive(Drop)]
+#[derive(Clone, Copy)]
 pub(crate) struct Plan {
     pub vars: usize,
     pub rows: usize,

@@ -3,6 +3,8 @@
 // refused, and at the largest sizes. A line for each call: its name, the answer, and whether the
 // lent slices hold what they should. The expected text is written by tools/trials_expected.py, and
 // not by a run of this program.
+#![tactic(auto)]
+
 mod days;
 mod either;
 mod exact;

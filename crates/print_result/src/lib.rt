@@ -1,5 +1,7 @@
 // The printer: an answer of presolve as text, in a lent buffer. specs/Text says what the text is,
 // specs/Page what the buffer holds.
+#![tactic(auto)]
+
 mod lines;
 mod put;
 mod rows;
@@ -11,7 +13,7 @@ ghost use Rattle.print_result.specs.Page.{page, Poured};
 ghost use Rattle.print_result.specs.Printing.{printed, outcome};
 
 // What was answered.
-#[derive(Drop)]
+#[derive(Clone, Copy)]
 pub enum Kind {
     Reduced,
     Unchanged,
@@ -19,7 +21,7 @@ pub enum Kind {
 }
 
 // The five counts, in the order in which they are printed.
-#[derive(Drop)]
+#[derive(Clone, Copy)]
 pub struct Counts {
     pub rows_dropped: usize,
     pub bounds_tightened: usize,
@@ -29,7 +31,7 @@ pub struct Counts {
 }
 
 // How many bytes were written, or that they did not fit.
-#[derive(Drop)]
+#[derive(Clone, Copy)]
 pub enum Printed {
     NoRoom,
     Bytes(usize),

@@ -1,5 +1,7 @@
 // src/presolve/work.rs of microlp 0.7.0, changed: what is read off the state.
 // Each function's result is the definition's, of whatever state the working slices show.
+#![tactic(auto)]
+
 mod coeffs;
 mod empty;
 mod rows;

@@ -1,5 +1,7 @@
 // src/presolve/mod.rs of microlp 0.7.0, changed: `presolve` but for what is written: the start, the
 // rounds, and the last look at the rows.
+#![tactic(auto)]
+
 ghost use Rattle.std.specs.Prelude.{◌+◌, ◌≤◌, length};
 ghost use Rattle.space.specs.Store.{floats_of, numbers_of, HoldsF, HoldsN};
 ghost use Rattle.folds.specs.Written.{Given};

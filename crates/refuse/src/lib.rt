@@ -1,5 +1,7 @@
 // The table of refusals for a call: the number of the earliest row of the table that applies. Added
 // by the port; the contract is one equation with the definition's `refusal`.
+#![tactic(auto)]
+
 ghost use Rattle.std.specs.Prelude.{◌≡◌};
 ghost use Rattle.definition.specs.Refusal.{refusal};
 ghost use Rattle.refuse.specs.Of.{model_of, lent_of, refused_is};
@@ -15,7 +17,7 @@ pub const MAX_ROWS: usize = 8192;
 pub const MAX_TERMS: usize = 65536;
 
 // The lengths of the lent slices. Fields are in camel case so that definitions name them unquoted.
-#[derive(Drop)]
+#[derive(Clone, Copy)]
 pub struct Lent {
     pub lower: usize,
     pub upper: usize,
@@ -33,7 +35,7 @@ pub struct Lent {
 }
 
 // No row of the table applies, or the number of the earliest one that does.
-#[derive(Drop)]
+#[derive(Clone, Copy)]
 pub enum Refusal {
     Accepted,
     Number(u8),

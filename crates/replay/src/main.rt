@@ -1,6 +1,8 @@
 // Replays a sample of the reference's answers. Standard input has model files, each after its length in
 // two bytes; of each it prints its number and the answer. The expected text was made from the
 // reference's answers by compare/run sample, and from no run of this program.
+#![tactic(auto)]
+
 ghost use Rattle.std.specs.Prelude.{◌≤◌};
 
 use libc::{STDIN_FILENO, STDOUT_FILENO};

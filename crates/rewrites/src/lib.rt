@@ -2,6 +2,8 @@
 // src/presolve/work.rs of microlp 0.7.0, changed.
 // A rewrite makes the row's magnitude smaller where its rewritten binaries are at one, and so its
 // tolerance: the new bound is relaxed by the difference, so that no point of that branch is lost.
+#![tactic(auto)]
+
 mod after;
 mod bindings;
 

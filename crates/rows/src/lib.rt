@@ -1,5 +1,7 @@
 // What the steps share of one row, of src/presolve/work.rs of microlp 0.7.0, changed: how many terms it
 // has as written, and dropping it.
+#![tactic(auto)]
+
 ghost use Rattle.std.specs.Prelude.{◌≡◌, ◌+◌, ◌-◌, ◌<◌, get_or};
 ghost use Rattle.definition.specs.Work.{drop_row};
 ghost use Rattle.space.specs.Store.{numbers_of, HoldsN};

@@ -1,6 +1,8 @@
 // Runs each model file that an argument names: the name, what is printed for the file, and what its
 // prefixes are refused with. tools/examples.py writes the expected text, from the files
 // examples/**/*.expected and by a reader of its own, and from no run.
+#![tactic(auto)]
+
 mod prefixes;
 
 use libc::STDOUT_FILENO;

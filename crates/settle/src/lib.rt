@@ -2,6 +2,8 @@
 // Each is folded, and judged where no term is left: a fixing after the last wave, by dual fixing say,
 // can leave a row none, and such a row is judged and not emitted. So the model may still turn out
 // infeasible here.
+#![tactic(auto)]
+
 ghost use Rattle.std.specs.Prelude.{◌<◌};
 ghost use Rattle.definition.specs.Folds.{fold_fixed};
 ghost use Rattle.space.specs.Store.{floats_of, numbers_of, HoldsF, HoldsN};

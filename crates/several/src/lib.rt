@@ -4,6 +4,8 @@
 // row is dropped as redundant only by the emitted bounds, which the reduced model has, and never by a
 // working bound that the row itself may have implied; the working activity lies within the emitted one
 // and so tells first whether to look.
+#![tactic(auto)]
+
 mod one_row;
 mod several;
 

@@ -38,7 +38,7 @@ fn force_row(
 }
 
 // What the emitted activity makes of a row: its variables forced to a corner, the row dropped, or neither.
-#[derive(Drop)]
+#[derive(Clone, Copy)]
 pub enum Ending {
     ForceMin,
     ForceMax,
@@ -81,7 +81,7 @@ fn end_of(
 
 // What the working activity says of a row: whether no point meets it, and whether it may be forcing or
 // redundant.
-#[derive(Drop)]
+#[derive(Clone, Copy)]
 struct Reach {
     never: bool,
     reduces: bool,

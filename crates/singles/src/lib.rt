@@ -4,6 +4,8 @@
 // can move it any more. A row of one term is a bound: an integer variable gets it, rounded so that
 // every whole number is kept that meets the row within its budget, and the row leaves where the
 // variable's bounds imply it.
+#![tactic(auto)]
+
 mod empty;
 mod singleton;
 

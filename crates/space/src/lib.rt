@@ -2,6 +2,8 @@
 // one for each field of `Work`, `Row` and `Binding` of src/presolve/work.rs and model.rs of microlp
 // 0.7.0, changed: flat lists for vectors.
 // docs/WORKSPACE.md has the layout. Every function here reads or writes one number.
+#![tactic(auto)]
+
 mod floats_at;
 mod numbers_at;
 
@@ -23,7 +25,7 @@ pub use numbers_at::{
 
 // What every function has of the call: how many variables, rows and terms, whether the mode is a
 // Mip, and the feasibility tolerance.
-#[derive(Drop)]
+#[derive(Clone, Copy)]
 pub struct Shape {
     pub vars: usize,
     pub rows: usize,
@@ -33,7 +35,7 @@ pub struct Shape {
 }
 
 // A step that may find the model infeasible.
-#[derive(Drop)]
+#[derive(Clone, Copy)]
 pub enum Step {
     Stop,
     Next,

@@ -1,1 +1,3 @@
 // What the working slices say of the definition's state. No code: see specs/.
+
+#![tactic(auto)]

@@ -3,6 +3,8 @@
 // A row is queued where something that it reads has changed, so a wave costs what changed. The cap on
 // waves is a safety net: every reduction may be left out, so what is queued when it is reached is
 // abandoned.
+#![tactic(auto)]
+
 mod again;
 mod one_row;
 mod primal;

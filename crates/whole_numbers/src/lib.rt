@@ -2,6 +2,8 @@
 // whole, which the promise about the least objective asks beside it; where not, which condition fails
 // first, and where. Added by the port. The contract is one equation with specs/Fault, and specs/Exactly
 // says what an answer means.
+#![tactic(auto)]
+
 mod conditions;
 
 ghost use Rattle.std.specs.Prelude.{◌≡◌};
@@ -11,13 +13,13 @@ ghost use Rattle.whole_numbers.specs.Of.{numbers_of, numbers_is};
 // The condition that fails (1 domains, 2 bounds, 3 coefficients, 4 right sides, 5 row lengths,
 // 6 tolerances, 7 mode, 8 objective), and its first place: a variable, a term, a row; for 6, 0 is
 // feasibility and 1 int_tol. 8 is asked last: a model that is told to fail it is a farm model.
-#[derive(Drop)]
+#[derive(Clone, Copy)]
 pub struct Fault {
     pub number: u8,
     pub place: usize,
 }
 
-#[derive(Drop)]
+#[derive(Clone, Copy)]
 pub enum Numbers {
     Whole,
     Off(Fault),

@@ -1,4 +1,6 @@
 // Zeros throughout: what working slices hold after an accepted call, over their whole lent length.
+#![tactic(auto)]
+
 ghost use Rattle.std.specs.Prelude.{◌≡◌, length, replicate};
 ghost use Rattle.floats.specs.Num.{0f};
 
