@@ -77,7 +77,7 @@ row_sum part whole w {j} {s} {z} [] e p h = subst (λ (k : ℕ). Part k s z) (no
     none j w = omega arith
 row_sum part whole w {j} {s} {z} (t ∷ ts) e p h =
     subst (λ (k : ℕ). Part k (sum_from part (s ⊕ part t) ts) (total_from whole (z +ℤ whole t) ts)) (one j w (length ts))
-    (row_sum part whole w ts e.1 (part_sum p e.0 (first j w (length ts) (2 ^ 53) h)) (le_trans (le_of_eq (one j w (length ts))) h))
+    (row_sum part whole w {j = j + w} ts e.1 (part_sum p e.0 (first j w (length ts) (2 ^ 53) h)) (le_trans (le_of_eq (one j w (length ts))) h))
   where
     one : (j w n : ℕ) → j + w + n * w ≡ j + suc n * w
     one j w n = omega arith

@@ -1,0 +1,17 @@
+-- `binding_sum`: what is left of the definition from the k-th binary on gives the whole.
+use Prim.Native.Nat.{◌-◌}
+use Rattle.space.specs.Store.{floats_of, numbers_of}
+use Rattle.view.specs.Known.{Written}
+use Rattle.coeffs.specs.Over.{Over}
+use Rattle.coeffs.specs.Bound.{bind_from, bind_all, bind_start, bind_turn, bind_end}
+use borrow.Author.Rules.{rules}
+use Rattle.coeffs.proofs.bindings.binding_sum.Goals as goal
+
+pub loop-k-init : goal.loop-k-init
+loop-k-init c = bind_start _ _ c.from-d.ensures
+
+pub loop-k-preserved : goal.loop-k-preserved
+loop-k-preserved c = search bind_turn
+
+pub returns : goal.returns
+returns c = search bind_end

@@ -1,0 +1,8 @@
+-- `is_binary`: the test is a function of numbers.
+use Rattle.coeffs.specs.Eligible.{is_binary}
+use borrow.Author.Rules.{rules}
+use Rattle.coeffs.proofs.tighten.is_binary.Goals as goal
+
+pub returns : goal.returns
+returns c = is_binary _ c.is_int_domain-int.ensures c.get_elo-lo.ensures c.get_ehi-hi.ensures
+    c.binary.ensures

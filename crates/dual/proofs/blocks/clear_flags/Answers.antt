@@ -1,0 +1,22 @@
+-- `clear_flags`: the flags of the variables below v are clear.
+use Prim.Native.Nat.{◌-◌}
+use mathlib.Core.Path.{◌≡◌}
+use lib.ListN.{length}
+use Rattle.space.specs.Store.{numbers_of}
+use Rattle.space.specs.Blocks.{bad_dec_length, bad_inc_length}
+use Rattle.dual.specs.Flags.{Clearing, clear_start, clear_turn, clear_end}
+use borrow.Author.Rules.{rules}
+use Rattle.dual.proofs.blocks.clear_flags.Goals as goal
+
+pub loop-v-init : goal.loop-v-init
+loop-v-init c = search (clear_start, bad_dec_length, bad_inc_length)
+
+pub loop-v-preserved : goal.loop-v-preserved
+loop-v-preserved c = (
+  search rules,
+  clear_turn c.loop-v.invariant.1 c.loop-v-test.true c.put_bad_dec.ensures
+      c.put_bad_inc.ensures,
+)
+
+pub returns : goal.returns
+returns c = clear_end c.loop-v.invariant.1 c.loop-v-test.false

@@ -1,0 +1,9 @@
+-- `ceil` computes its definition, the mirror of floor's.
+use borrow.Author.Rules.{rules}
+use mathlib.Core.Path.{sym, ap, ◌∙◌}
+use lib.Ieee.{neg}
+use Rattle.floats.specs.Meaning.{ceil_mirror}
+use Rattle.floats.proofs.ceil.Goals as goal
+
+pub returns : goal.returns
+returns c = ap neg c.floor.ensures ∙ sym (ceil_mirror c.args.x)

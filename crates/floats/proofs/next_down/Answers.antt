@@ -1,0 +1,10 @@
+-- `next_down` is the mirror of `next_up`.
+use borrow.Author.Rules.{rules}
+use mathlib.Core.Path.{ap}
+use lib.Ieee.{neg}
+use Rattle.floats.specs.Num.{next_down}
+use Rattle.floats.proofs.next_down.Goals as goal
+
+pub returns : goal.returns
+unfolding next_down
+returns c = ap neg c.next_up.ensures

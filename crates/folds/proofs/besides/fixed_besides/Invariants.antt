@@ -1,0 +1,16 @@
+-- `fixed_besides` is fixed_besides, of the row's own binding.
+use Prim.Native.Nat.{◌-◌, ◌≤◌}
+use native.Mathlib.Omega.{arith}
+use mathlib.Core.Path.{refl}
+use Rattle.space.specs.Store.{floats_of, numbers_of}
+use Rattle.folds.specs.Sized.{sized}
+use Rattle.folds.specs.FoldStep.{spans_long, stop_in, folds_in}
+use Rattle.folds.specs.Besides.{listed, binaries_in, folded_in, Summed, summed_more, besides_end}
+use borrow.Author.Rules.{rules}
+use Rattle.folds.proofs.besides.fixed_besides.Given as goal
+
+abbrev pub invariant-loop-j : goal.invariant-loop-j
+invariant-loop-j l = (l.j ≤ l.n) × Summed l.starts l.s l.r (listed l.a l.k (numbers_of l.s l.m).binary) (floats_of l.s l.w) (numbers_of l.s l.m) l.j l.sum
+
+abbrev pub decreases-loop-j : goal.decreases-loop-j
+decreases-loop-j l = l.n - l.j

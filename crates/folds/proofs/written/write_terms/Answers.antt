@@ -1,0 +1,26 @@
+-- `write_terms`: the input's terms from place a up to e, all live.
+use Prim.Native.Nat.{◌-◌, ◌≤◌}
+use native.Mathlib.Omega.{arith}
+use mathlib.Core.Path.{◌≡◌, refl}
+use lib.ListN.{length}
+use Rattle.space.specs.Store.{floats_of, numbers_of}
+use Rattle.folds.specs.Sized.{sized}
+use Rattle.folds.specs.Written.{Copied, copied_none, copied_more, copied_end}
+use borrow.Author.Rules.{rules}
+use Rattle.folds.proofs.written.write_terms.Goals as goal
+
+pub loop-i-init : goal.loop-i-init
+loop-i-init c = search (copied_none, rules)
+
+pub loop-i-preserved : goal.loop-i-preserved
+loop-i-preserved c = (
+  search rules,
+  search rules,
+  omega arith,
+  omega arith,
+  copied_more c.loop-i.invariant.4 (sized _ _ _ (omega arith) (omega arith)) c.loop-i.invariant.2 (omega arith) refl
+      c.put_var.ensures refl c.put_coeff.ensures,
+)
+
+pub returns : goal.returns
+returns c = search (copied_end, rules)

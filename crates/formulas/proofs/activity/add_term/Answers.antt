@@ -1,0 +1,6 @@
+-- `add_term` is its three parts, one after the other.
+use Rattle.std.proofs.Common.{rules}
+use Rattle.formulas.proofs.activity.add_term.Goals as goal
+
+pub returns : goal.returns
+returns c = cc

@@ -1,0 +1,12 @@
+-- `hi_side` computes its definition.
+use Rattle.std.proofs.Common.{sym, ◌∙◌, rules}
+use Rattle.definition.specs.Sides.{hi_side}
+use Rattle.formulas.proofs.sides.hi_side.Goals as goal
+
+pub returns-then-is_finite : goal.returns-then-is_finite
+unfolding hi_side
+returns-then-is_finite c = simp (sym c.is_finite.ensures ∙ c.if-is_finite.true)
+
+pub returns : goal.returns
+unfolding hi_side
+returns c = simp (sym c.is_finite.ensures ∙ c.if-is_finite.false)

@@ -1,0 +1,13 @@
+-- `near_max` computes its definition.
+use Rattle.std.proofs.Common.{sym, ◌∙◌, rules}
+use Rattle.floats.specs.Num.{choose}
+use Rattle.definition.specs.Sides.{budget_u, near_max}
+use Rattle.formulas.proofs.sides.near_max.Goals as goal
+
+pub returns-then-lo_side : goal.returns-then-lo_side
+unfolding near_max budget_u choose
+returns-then-lo_side c = record { of = λ M r o. simp (sym c.lo_side.ensures ∙ c.if-lo_side.true) (cc (c.budget.ensures.of M r o)) }
+
+pub returns : goal.returns
+unfolding near_max budget_u choose
+returns c = record { of = λ M r o. simp (sym c.lo_side.ensures ∙ c.if-lo_side.false) }

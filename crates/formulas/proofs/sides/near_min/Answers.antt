@@ -1,0 +1,13 @@
+-- `near_min` computes its definition.
+use Rattle.std.proofs.Common.{sym, ◌∙◌, rules}
+use Rattle.floats.specs.Num.{choose}
+use Rattle.definition.specs.Sides.{budget_l, near_min}
+use Rattle.formulas.proofs.sides.near_min.Goals as goal
+
+pub returns-then-hi_side : goal.returns-then-hi_side
+unfolding near_min budget_l choose
+returns-then-hi_side c = record { of = λ M r o. simp (sym c.hi_side.ensures ∙ c.if-hi_side.true) (cc (c.budget.ensures.of M r o)) }
+
+pub returns : goal.returns
+unfolding near_min budget_l choose
+returns c = record { of = λ M r o. simp (sym c.hi_side.ensures ∙ c.if-hi_side.false) }

@@ -1,0 +1,16 @@
+-- `new_upper` computes its definition.
+use Rattle.std.proofs.Common.{sym, ◌∙◌, rules}
+use Rattle.floats.specs.Num.{choose}
+use Rattle.definition.specs.Singles.{new_upper}
+use Rattle.formulas.proofs.singles.new_upper.Goals as goal
+
+pub returns-then-is_finite : goal.returns-then-is_finite
+unfolding new_upper choose
+returns-then-is_finite c = record {
+  of = λ M r o. simp (sym c.is_finite.ensures ∙ c.if-is_finite.true)
+      (cc (c.widened_at.ensures.of M r o));
+}
+
+pub returns : goal.returns
+unfolding new_upper choose
+returns c = record { of = λ M r o. simp (sym c.is_finite.ensures ∙ c.if-is_finite.false) }

@@ -1,0 +1,14 @@
+-- The variables that are left give the whole.
+use mathlib.Core.Path.{◌≡◌, refl, ap, ◌∙◌}
+use lib.ListN.{drop}
+use Rattle.model_file.specs.Format.{many, variable}
+use Rattle.model_file.specs.Places.{variable_got}
+use Rattle.model_file.specs.Skips.{skipped, skip_turn, skip_bad, skip_end}
+use borrow.Author.Rules.{rules}
+use Rattle.model_file.proofs.scan.skip_variables.Given as goal
+
+abbrev pub invariant-loop-left : goal.invariant-loop-left
+invariant-loop-left l = skipped (many variable l.initial.left (drop l.initial.at l.s)) ≡ skipped (many variable l.left (drop l.at l.s))
+
+abbrev pub decreases-loop-left : goal.decreases-loop-left
+decreases-loop-left l = l.left

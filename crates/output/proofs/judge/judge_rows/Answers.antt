@@ -1,0 +1,23 @@
+-- `judge_rows`: before row r the rows below it are judged.
+use borrow.Author.Rules.{rules}
+use Prim.Native.Nat.{◌-◌, ◌≤◌}
+use native.Mathlib.Omega.{arith}
+use mathlib.Core.Path.{◌≡◌, refl}
+use lib.ListN.{length}
+use Rattle.space.specs.Store.{floats_of, numbers_of}
+use Rattle.view.specs.Known.{Written}
+use Rattle.emit.specs.Judging.{Judged, judged_start, judged_turn, judged_ready}
+use Rattle.output.specs.Judged.{judged-end}
+use Rattle.output.proofs.judge.judge_rows.Goals as goal
+
+pub loop-r-init : goal.loop-r-init
+loop-r-init c = (refl, refl, omega arith, judged_start)
+
+pub judge_row-requires : goal.judge_row-requires
+judge_row-requires c = search (judged_ready, rules)
+
+pub loop-r-preserved : goal.loop-r-preserved
+loop-r-preserved c = search (judged_turn, rules)
+
+pub returns : goal.returns
+returns c = search (judged-end, rules)

@@ -1,0 +1,37 @@
+-- `write_results`: the rows are judged, and the lists written by their fates.
+use native.Mathlib.Omega.{arith}
+use mathlib.Core.Path.{◌∙◌}
+use Rattle.output.specs.Answered.{lowers, uppers, sides, spanned-judged, indexed-judged, writes-out}
+use borrow.Author.Rules.{rules}
+use Rattle.output.proofs.lists.write_results.Goals as goal
+
+pub write_lists-requires : goal.write_lists-requires
+write_lists-requires c = record {
+  holds_f = (
+    omega (arith, c.judge_rows.auto.w, c.requires.holds_f.0),
+    omega (arith, c.judge_rows.auto.m, c.requires.holds_f.1),
+    lowers c.requires.ready,
+    uppers c.requires.ready,
+    sides c.requires.ready,
+  );
+  room = c.requires.room;
+  spanned = spanned-judged c.judge_rows.ensures c.requires.ready;
+  indexed = indexed-judged c.judge_rows.ensures c.requires.ready;
+}
+
+pub shape_of-w : goal.shape_of-w
+shape_of-w c = c.judge_rows.auto.w
+
+pub shape_of-m : goal.shape_of-m
+shape_of-m c = let after-write-lists =
+    c.before.before.before.before.before.before.before.before.before.before.before.before.before.before.before.before.before.before.before.before.before.before in
+    let after-judge-rows =
+    after-write-lists.before.before.before.before.before.before.before.before.before.before.before.before.before.before.before.before.before in
+    after-write-lists.write-lists.kept.1.1.1.1.1.1.0 ∙ after-judge-rows.judge-rows.kept.1.1.1.1.1.1.0
+
+pub returns : goal.returns
+returns c = let after-write-lists =
+    c.before.before.before.before.before.before.before.before.before.before.before.before.before.before.before.before.before.before.before.before.before.before in
+    let after-judge-rows =
+    after-write-lists.before.before.before.before.before.before.before.before.before.before.before.before.before.before.before.before.before in
+    writes-out after-judge-rows.judge-rows.ensures after-write-lists.write-lists.ensures

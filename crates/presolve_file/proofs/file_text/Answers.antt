@@ -1,0 +1,10 @@
+-- A text that fits stands at the start of the buffer.
+use Rattle.presolve_file.specs.Fitting.{fits_bytes, fits_none}
+use borrow.Author.Rules.{rules}
+use Rattle.presolve_file.proofs.file_text.Goals as goal
+
+pub returns-in-NoRoom : goal.returns-in-NoRoom
+returns-in-NoRoom c = fits_none _ _ c.print_file.ensures c.in-NoRoom.is
+
+pub returns-in-Bytes : goal.returns-in-Bytes
+returns-in-Bytes c = fits_bytes _ _ c.print_file.ensures c.in-Bytes.is

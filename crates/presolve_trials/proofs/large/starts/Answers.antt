@@ -1,0 +1,13 @@
+-- The slice keeps its length, and what is left of it falls.
+use mathlib.Core.Path.{◌≡◌}
+use Prim.Native.Nat.{◌-◌}
+use native.Mathlib.Omega.{arith}
+use lib.ListN.{length, length-set}
+use borrow.Author.Rules.{rules}
+use Rattle.presolve_trials.proofs.large.starts.Goals as goal
+
+pub loop-i-smaller : goal.loop-i-smaller
+loop-i-smaller c = simp length-set (omega (arith, c.loop-i-test))
+
+pub loop-i-preserved : goal.loop-i-preserved
+loop-i-preserved c = simp length-set c.loop-i.invariant

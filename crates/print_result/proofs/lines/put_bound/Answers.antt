@@ -1,0 +1,11 @@
+-- One field after the other.
+use Rattle.print_result.specs.Text.{ascii, bound_line}
+use Rattle.print_result.specs.Page.{◌⨟◌}
+use borrow.Author.Rules.{rules}
+use Rattle.print_result.proofs.lines.put_bound.Goals as goal
+
+pub returns : goal.returns
+unfolding ascii bound_line
+returns c = c.put_text-a.ensures ⨟
+    (c.put_number-b.ensures ⨟
+    (c.put_float-c.ensures ⨟ (c.put_float-d.ensures ⨟ c.put_byte.ensures)))

@@ -1,8 +1,0 @@
--- The first run counts, and the second writes what it counted.
-use Rattle.print_result.specs.Printing.{no_room, written}
-use borrow.Author.Rules.{rules}
-use Rattle.print_result.proofs.print_answer.Statement.{statement}
-use Rattle.print_result.proofs.print_answer.Tie as tie
-
-pub print-answer-spec : {M : Type 1} → statement M
-print-answer-spec = tie.close (tie.spec (search rules) (search rules) (search rules) (λ c. search no_room) (search rules) (search rules) (λ c. search written))

@@ -1,0 +1,10 @@
+-- `place`: live terms, then folded ones.
+use Rattle.readers.specs.Coeffs.{place_live, place_folded}
+use borrow.Author.Rules.{rules}
+use Rattle.readers.proofs.coeffs.place.Goals as goal
+
+pub returns-then-k-n : goal.returns-then-k-n
+returns-then-k-n c = place_live _ _ c.if-k-n.true
+
+pub returns : goal.returns
+returns c = place_folded _ _ c.if-k-n.false

@@ -1,0 +1,46 @@
+-- `row_coeff`: the walk goes on while the rest of the row has the variable.
+use Prim.Native.Nat.{◌+◌, ◌-◌}
+use native.Mathlib.Omega.{arith}
+use lib.ListN.{get_or}
+use Rattle.space.specs.Store.{floats_of, numbers_of}
+use Rattle.readers.specs.Coeffs.{Seeking, term_long, seek_start, seek_in, seek_row, seek_fits, seek_place, seek_turn, seek_end}
+use borrow.Author.Rules.{rules}
+use Rattle.readers.proofs.coeffs.row_coeff.Goals as goal
+
+pub bounds-starts-r : goal.bounds-starts-r
+bounds-starts-r c = omega (arith, term_long c.requires.ready_term c.requires.r_lt_rows.0 c.requires.r_lt_rows.3)
+
+pub bounds-starts-r-2 : goal.bounds-starts-r-2
+bounds-starts-r-2 c = search (term_long, rules)
+
+pub loop-s-init : goal.loop-s-init
+loop-s-init c = search seek_start
+
+pub place-i-requires : goal.place-i-requires
+place-i-requires c = seek_fits c.requires.r_lt_rows.0 c.requires.r_lt_rows.3 c.loop-s.invariant c.get_len-n.ensures
+
+pub get_var-t-requires : goal.get_var-t-requires
+get_var-t-requires c = search seek_place
+
+pub get_coeff-x-requires : goal.get_coeff-x-requires
+get_coeff-x-requires c = search seek_place
+
+pub overflow_add-k : goal.overflow_add-k
+overflow_add-k c = omega (
+  arith,
+  seek_fits c.requires.r_lt_rows.0 c.requires.r_lt_rows.3 c.loop-s.invariant c.get_len-n.ensures,
+  (seek_row c.requires.r_lt_rows.0 c.requires.r_lt_rows.3 c.loop-s.invariant).last,
+  (seek_row c.requires.r_lt_rows.0 c.requires.r_lt_rows.3 c.loop-s.invariant).small,
+)
+
+pub loop-s-smaller : goal.loop-s-smaller
+loop-s-smaller c = omega (arith, seek_in c.requires.r_lt_rows.0 c.requires.r_lt_rows.3 c.loop-s.invariant)
+
+pub loop-s-preserved : goal.loop-s-preserved
+loop-s-preserved c = seek_turn c.requires.r_lt_rows.0 c.requires.r_lt_rows.3 c.loop-s.invariant
+    c.get_len-n.ensures c.place-i.ensures c.get_var-t.ensures c.if-t-v.false
+
+pub returns : goal.returns
+returns c = seek_end c.requires.r_lt_rows.0 c.requires.r_lt_rows.3 c.loop-s.invariant
+    c.get_len-n.ensures c.place-i.ensures c.get_var-t.ensures
+    c.if-t-v.true c.get_coeff-x.ensures

@@ -1,0 +1,14 @@
+-- `row_coeff`: the walk goes on while the rest of the row has the variable.
+use Prim.Native.Nat.{◌+◌, ◌-◌}
+use native.Mathlib.Omega.{arith}
+use lib.ListN.{get_or}
+use Rattle.space.specs.Store.{floats_of, numbers_of}
+use Rattle.readers.specs.Coeffs.{Seeking, term_long, seek_start, seek_in, seek_row, seek_fits, seek_place, seek_turn, seek_end}
+use borrow.Author.Rules.{rules}
+use Rattle.readers.proofs.coeffs.row_coeff.Given as goal
+
+abbrev pub invariant-loop-s : goal.invariant-loop-s
+invariant-loop-s l = Seeking l.starts l.s (floats_of l.s l.w) (numbers_of l.s l.m) l.r l.v l.k
+
+abbrev pub decreases-loop-s : goal.decreases-loop-s
+decreases-loop-s l = get_or (numbers_of l.s l.m).len l.r 0 + get_or (numbers_of l.s l.m).folded l.r 0 - l.k

@@ -1,0 +1,10 @@
+-- `fixed_value`, by whether the variable is fixed.
+use Rattle.readers.specs.Vars.{value_fixed, value_free}
+use borrow.Author.Rules.{rules}
+use Rattle.readers.proofs.vars.fixed_value.Goals as goal
+
+pub returns-then-fixed_at : goal.returns-then-fixed_at
+returns-then-fixed_at c = value_fixed _ c.get_elo-lo.ensures c.get_ehi-hi.ensures c.fixed_at.ensures c.if-fixed_at.true
+
+pub returns : goal.returns
+returns c = value_free _ c.get_elo-lo.ensures c.get_ehi-hi.ensures c.fixed_at.ensures c.if-fixed_at.false

@@ -1,0 +1,10 @@
+-- `is_int`, by the mode.
+use Rattle.readers.specs.Vars.{int_mip, int_lp}
+use borrow.Author.Rules.{rules}
+use Rattle.readers.proofs.vars.is_int.Goals as goal
+
+pub returns-then-s : goal.returns-then-s
+returns-then-s c = int_mip _ c.if-s.true c.is_int_domain.ensures
+
+pub returns : goal.returns
+returns c = int_lp _ c.if-s.false

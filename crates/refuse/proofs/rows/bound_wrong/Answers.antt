@@ -1,0 +1,7 @@
+-- `bound_wrong` computes its definition.
+use borrow.Author.Rules.{rules}
+use Rattle.refuse.specs.Rows.{bound_is}
+use Rattle.refuse.proofs.rows.bound_wrong.Goals as goal
+
+pub returns : goal.returns
+returns c = search bound_is

@@ -1,0 +1,23 @@
+-- `rebound_ge`: the coefficient, the binding, and the bound with what the binding keeps more.
+use native.Mathlib.Omega.{arith}
+use Rattle.space.specs.Blocks.{coeffs_length, lo_length}
+use Rattle.rewrites.specs.Staying.{ready_stays}
+use Rattle.rewrites.specs.After.{set_place, set_acts, set_stays, set_live, ge_acts}
+use borrow.Author.Rules.{rules}
+use Rattle.rewrites.proofs.after.rebound_ge.Goals as goal
+
+pub set_coeff-requires : goal.set_coeff-requires
+set_coeff-requires c = record { r_in_bounds = set_place c.requires.holds_f.2 c.requires.ready; holds_f = search rules }
+
+pub rewrite_binding-grown-requires : goal.rewrite_binding-grown-requires
+rewrite_binding-grown-requires c = (
+  search (set_live, coeffs_length, rules),
+  ready_stays c.requires.holds_f.2.row (set_acts c.requires.holds_f.2 c.args.na (coeffs_length _ _ c.requires.holds_f.0)
+      c.set_coeff.ensures) (set_stays c.requires.holds_f.2 c.args.na c.requires.holds_f.3)
+      c.requires.ready,
+)
+
+pub returns : goal.returns
+returns c = ge_acts c.args.a c.args.na _ c.args.bp c.requires.holds_f.2 c.requires.holds_f.3 c.requires.ready (coeffs_length _ _ c.requires.holds_f.0)
+    c.set_coeff.ensures c.rewrite_binding-grown.ensures.acts c.rewrite_binding-grown.ensures.reads
+    (lo_length _ _ (omega arith)) c.get_lo-b.ensures c.put_lo.ensures

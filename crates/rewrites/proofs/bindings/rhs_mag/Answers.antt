@@ -1,0 +1,9 @@
+-- `rhs_mag`: the shift is read, and the rest is a formula.
+use mathlib.Core.Path.{ap, ◌∙◌}
+use lib.Ieee.{Float}
+use Rattle.floats.specs.Num.{◌⊕◌, abs}
+use borrow.Author.Rules.{rules}
+use Rattle.rewrites.proofs.bindings.rhs_mag.Goals as goal
+
+pub returns : goal.returns
+returns c = c.absolute.ensures ∙ ap (λ (x : Float). abs (c.args.b ⊕ x)) c.get_shift-x.ensures

@@ -1,0 +1,20 @@
+-- `rounds`: what is left of the definition after n rounds gives the whole.
+use Prim.Native.Nat.{◌-◌}
+use native.Mathlib.Omega.{arith}
+use mathlib.Core.Path.{◌≡◌}
+use lib.ListN.{length}
+use Rattle.space.specs.Store.{floats_of, numbers_of}
+use Rattle.view.specs.Steps.{ready_under}
+use Rattle.wave.specs.Begin.{waves_is}
+use Rattle.rounds.specs.After.{Running, running_known}
+use Rattle.rounds.specs.Rounding.{Rounding, waves_under, rounding_start, rounding_ready, rounding_waved}
+use Rattle.rounds.specs.Rounding.{rounding_end, rounding_stop, rounding_turn, rounding_done}
+use borrow.Author.Rules.{rules}
+use Rattle.rounds.proofs.fixpoint.rounds.Given as goal
+
+abbrev pub invariant-loop-n : goal.invariant-loop-n
+invariant-loop-n l = (length l.w ≡ length l.initial.w) × (length l.m ≡ length l.initial.m)
+    × Rounding (Running l.obj l.domain l.starts l.index l.coeff l.cmp l.rhs l.adj l.mode) l.s (floats_of l.s l.initial.w) (numbers_of l.s l.initial.m) (floats_of l.s l.w) (numbers_of l.s l.m) l.cap l.n
+
+abbrev pub decreases-loop-n : goal.decreases-loop-n
+decreases-loop-n l = l.cap - l.n

@@ -1,0 +1,7 @@
+-- `force_row`: each variable at its corner, and the row dropped.
+use Rattle.several.specs.Several.{force_acts}
+use borrow.Author.Rules.{rules}
+use Rattle.several.proofs.several.force_row.Goals as goal
+
+pub returns : goal.returns
+returns c = force_acts _ _ c.fix_all.ensures c.drop_row.ensures

@@ -1,0 +1,9 @@
+-- `singleton_misses` is singleton_misses.
+use Rattle.singles.specs.Singleton.{misses_is}
+use borrow.Author.Rules.{rules}
+use Rattle.singles.proofs.singleton.singleton_misses.Goals as goal
+
+pub returns : goal.returns
+returns c = misses_is _ _ _ _ _ c.limits-x.ensures
+    c.written_terms-n.ensures c.get_elo-elo.ensures
+    c.get_ehi-ehi.ensures c.bound_tol-low.ensures c.bound_tol-high.ensures c.misses.ensures

@@ -1,7 +1,0 @@
--- `count_tightened` puts one more than it reads, modulo 2^64.
-use Rattle.std.proofs.Common.{rules}
-use Rattle.space.proofs.numbers_at.count_tightened.Statement.{statement}
-use Rattle.space.proofs.numbers_at.count_tightened.Tie as tie
-
-pub count-tightened-spec : {M : Type 1} → statement M
-count-tightened-spec = tie.close (tie.spec (λ c κs. search rules) (λ c κs. search rules) (λ c κs. search rules) (λ c. search rules) (λ c. cc))

@@ -1,0 +1,7 @@
+-- `put_fate` writes the place of `fate_put`, which the slice is long enough for.
+use Rattle.space.specs.Blocks.{fate_put}
+use Rattle.std.proofs.Common.{rules}
+use Rattle.space.proofs.numbers_at.put_fate.Goals as goal
+
+pub returns : goal.returns
+returns c = search fate_put

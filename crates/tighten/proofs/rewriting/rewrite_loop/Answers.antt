@@ -1,0 +1,32 @@
+-- `rewrite_loop`: what is left of the definition from term i on gives the whole.
+use Prim.Native.Nat.{◌-◌}
+use native.Mathlib.Omega.{arith}
+use mathlib.Core.Path.{◌≡◌}
+use lib.ListN.{length}
+use Rattle.formulas.specs.Rewriting.{form_is}
+use Rattle.space.specs.Store.{floats_of, numbers_of}
+use Rattle.tighten.specs.Tightening.{Tightening}
+use Rattle.tighten.specs.Loop.{AtTerm, at_start, at_next, at_back, at_end}
+use borrow.Author.Rules.{rules}
+use Rattle.tighten.proofs.rewriting.rewrite_loop.Goals as goal
+
+pub loop-i-init : goal.loop-i-init
+loop-i-init c = search at_start
+
+pub rewrite_step-x-requires : goal.rewrite_step-x-requires
+rewrite_step-x-requires c = ((search rules, omega arith, omega arith, search rules, search rules, search rules), search rules)
+
+pub returns-then-x : goal.returns-then-x
+returns-then-x c = at_back c.requires.r_lt_rows.0 c.loop-i.invariant.2 c.loop-i-test.true c.rewrite_step-x.ensures
+    c.if-x.true
+
+pub loop-i-preserved : goal.loop-i-preserved
+loop-i-preserved c = (
+  search rules,
+  search rules,
+  at_next c.requires.r_lt_rows.0 c.loop-i.invariant.2 c.loop-i-test.true c.rewrite_step-x.ensures
+      c.if-x.false,
+)
+
+pub returns : goal.returns
+returns c = at_end c.requires.r_lt_rows.0 c.loop-i.invariant.2 c.loop-i-test.false

@@ -1,0 +1,18 @@
+-- `wave_rows` is wave_rows, over the n rows that stand in the block of the wave's rows.
+use Prim.Native.Nat.{◌-◌}
+use mathlib.Core.Path.{◌≡◌, refl}
+use lib.ListN.{length}
+use Rattle.space.specs.Store.{floats_of, numbers_of}
+use Rattle.space.specs.Blocks.{wave_length}
+use Rattle.view.specs.Known.{Known}
+use Rattle.wave.specs.Row.{row_is}
+use Rattle.wave.specs.Rows.{Passing, passing_start, passing_ready, passing_row, passing_turn, passing_stop, passing_end}
+use borrow.Author.Rules.{rules}
+use Rattle.wave.proofs.primal.wave_rows.Given as goal
+
+abbrev pub invariant-loop-i : goal.invariant-loop-i
+invariant-loop-i l = (length l.w ≡ length l.initial.w) × (length l.m ≡ length l.initial.m)
+    × Passing (Known l.domain l.starts l.index l.coeff l.cmp l.rhs l.adj) l.s (floats_of l.s l.initial.w) (numbers_of l.s l.initial.m) (floats_of l.s l.w) (numbers_of l.s l.m) l.n l.i
+
+abbrev pub decreases-loop-i : goal.decreases-loop-i
+decreases-loop-i l = l.n - l.i

@@ -1,0 +1,21 @@
+-- `copy_queue`: the rows queued so far stand in the wave's block, in their order.
+use Prim.Native.Nat.{◌-◌, ◌≤◌}
+use native.Mathlib.Omega.{arith}
+use mathlib.Core.Path.{◌≡◌}
+use lib.ListN.{length}
+use Rattle.space.specs.Store.{numbers_of}
+use Rattle.space.specs.Blocks.{wave_length, queue_length}
+use Rattle.wave.specs.Begin.{Copied, copied_turn, copied_end}
+use borrow.Author.Rules.{rules}
+use Rattle.wave.proofs.queue.copy_queue.Goals as goal
+
+pub loop-i-preserved : goal.loop-i-preserved
+loop-i-preserved c = (
+  omega arith,
+  omega arith,
+  copied_turn c.loop-i.invariant.2 (wave_length _ _ (omega arith)) (queue_length _ _ c.requires.1) c.requires.0 c.loop-i-test.true
+      c.get_queue-r.ensures c.put_wave.ensures,
+)
+
+pub returns : goal.returns
+returns c = search copied_end

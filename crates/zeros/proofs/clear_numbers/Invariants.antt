@@ -1,0 +1,13 @@
+-- `clear_numbers`: zeros so far, the rest as it was.
+use Prim.Native.Nat.{◌-◌}
+use native.Mathlib.Omega.{arith}
+use lib.ListN.{length, length-set}
+use Rattle.zeros.specs.Fill.{Filled, fill_turn, fill_end}
+use borrow.Author.Rules.{rules}
+use Rattle.zeros.proofs.clear_numbers.Given as goal
+
+abbrev pub invariant-loop-i : goal.invariant-loop-i
+invariant-loop-i l = Filled 0 (length l.initial.m) l.i l.m
+
+abbrev pub decreases-loop-i : goal.decreases-loop-i
+decreases-loop-i l = length l.m - l.i
