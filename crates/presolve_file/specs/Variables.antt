@@ -47,7 +47,7 @@ module _ {A : Type 0} {P : A → Type 0} where
   all_drop (suc k) (each p h) = all_drop k h
 
 -- n is above every variable of the model, and above the 0 that a list is read as past its end
-module _ (M : Model) (n : ℕ) (above : 0 < n) (Given_below : All (λ (v : ℕ). v < n) M.index) where
+module _ (M : Model) (n : ℕ) (above : 0 < n) (given_below : All (λ (v : ℕ). v < n) M.index) where
   abbrev Below : Term → Type 0
   Below t = t.var < n
 
@@ -64,7 +64,7 @@ module _ (M : Model) (n : ℕ) (above : 0 < n) (Given_below : All (λ (v : ℕ).
 
   as_written_lem : (r : ℕ) → Within (as_written M r)
   unfolding as_written written
-  as_written_lem r = record { live = zip_below _ (all_take (nnz M r) (all_drop (from M r) Given_below)); gone = no_one }
+  as_written_lem r = record { live = zip_below _ (all_take (nnz M r) (all_drop (from M r) given_below)); gone = no_one }
 
   -- ---- folding
   here : (i : ℕ) {row : Row} → Within row → Below (get_or row.terms i no_term)
