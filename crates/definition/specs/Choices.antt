@@ -50,6 +50,7 @@ not_not false e = true≢false refl e
 -- ---- tests that are computed
 bool_true : (b : Bool) → T b → b ≡ true
 bool_true true t = refl
+bool_true false t = elim t [ ]
 
 pub bool_false : (b : Bool) → (T b → ⊥) → b ≡ false
 bool_false true f = absurd (f tt)

@@ -36,3 +36,7 @@ slice_bounds-print_model-end-7 c = sym (length-take-le _ _ c.requires.coeff)
 pub slice_bounds-print_model-end-8 : goal.slice_bounds-print_model-end-8
 unfolding told conditions objective
 slice_bounds-print_model-end-8 c = sym (length-take-le _ _ c.requires.rhs)
+
+pub returns : goal.returns
+unfolding told conditions objective
+returns c = search rules

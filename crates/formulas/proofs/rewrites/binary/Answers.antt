@@ -10,3 +10,7 @@ returns-then-elo c = simp (c.if-is_int_domain.true, c.if-elo.true)
 pub returns-then-is_int_domain : goal.returns-then-is_int_domain
 unfolding binary_at
 returns-then-is_int_domain c = simp (c.if-is_int_domain.true, c.if-elo.false)
+
+pub returns : goal.returns
+unfolding binary_at
+returns c = search rules

@@ -10,3 +10,7 @@ returns-in-Le c = simp c.in-Le.is cc
 pub returns-in-Ge : goal.returns-in-Ge
 unfolding vacuous_room
 returns-in-Ge c = simp c.in-Ge.is cc
+
+pub returns-in-Neither : goal.returns-in-Neither
+unfolding vacuous_room
+returns-in-Neither c = search rules

@@ -16,3 +16,7 @@ returns-then-bits-gt9218868437227405312 c = sym (nan_is c.args.bits (sym (nan_bi
 pub float_from_bits-result : goal.float_from_bits-result
 unfolding of_bits div
 float_from_bits-result c = search (not, nan_bits_above, binary64, le-ltb)
+
+pub returns : goal.returns
+unfolding of_bits div
+returns c = search rules

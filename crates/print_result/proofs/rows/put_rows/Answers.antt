@@ -20,6 +20,6 @@ pub returns : goal.returns
 unfolding row_texts
 returns c = recast (left_none c.loop-i.invariant.1 (no_line _ _ _ c.loop-i-test.false))
     (ap (from_to (row_at c.args.row.now c.args.rewritten.now c.args.rhs.now c.args.from.now c.args.upto.now
-    c.args.term_index.now c.args.term_coeff_lem.now) 0) (entries c.least-spans.ensures
+    c.args.term_index.now c.args.term_coeff.now) 0) (entries c.least-spans.ensures
     c.least.ensures c.least-facts.ensures
     c.least-2.ensures c.least-n.ensures))
