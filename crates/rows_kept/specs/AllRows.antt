@@ -56,8 +56,8 @@ module _ (M : Model) {G : ℕ → Type 0} {Q : ℕ → Row → Type 0} (K : Each
 
   read_all : {r n : ℕ} {rs : List Row} {queue : List ℕ} → Read M r rs queue n → AllRows Q rs
   read_all unread = λ q. K.past q
-  read_all (queues {r} {rows = rs} t h) = snoc_all Q K.past rs r _ (read_size h) (read_all h) (K.steps r).folding.as_written
-  read_all (drops {r} {rows = rs} t h) = snoc_all Q K.past rs r _ (read_size h) (read_all h) (K.leaves r _ (K.steps r).folding.as_written)
+  read_all (queues {r} {rows = rs} t h) = snoc_all Q K.past rs r _ (read_size h) (read_all h) (K.steps r).folding.as_written_lem
+  read_all (drops {r} {rows = rs} t h) = snoc_all Q K.past rs r _ (read_size h) (read_all h) (K.leaves r _ (K.steps r).folding.as_written_lem)
 
   pub rows_held : Held M (λ w. AllRows Q w.rows)
   rows_held = record { kept = kept; passes = λ w p. p; begins = λ ls hs rows queue dirty n b h. read_all h }

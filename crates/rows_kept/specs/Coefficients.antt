@@ -76,7 +76,7 @@ steps M r =
     record {
       folding =
           record {
-            as_written = λ S N. record { live = written_numbers M r N; gone = no_one };
+            as_written_lem = λ S N. record { live = written_numbers M r N; gone = no_one };
             removes = λ row i h q S N. record { live = swap_all row.terms i (h S) (q S N).live; gone = (q S N).gone };
             folds = λ row i w h q S N. record { live = swap_all row.terms i (h S) (q S N).live; gone = all_append (q S N).gone (each (all_get i no_term (h S) (q S N).live) no_one) };
             relaxes = λ row b c l h e q S N. record { live = (q S N).live; gone = (q S N).gone };

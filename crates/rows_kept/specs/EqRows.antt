@@ -55,7 +55,7 @@ steps M r =
     record {
       folding =
           record {
-            as_written = λ z. rw z (record { sides = refl; unbound = refl; untouched = refl });
+            as_written_lem = λ z. rw z (record { sides = refl; unbound = refl; untouched = refl });
             removes = λ row i h q z. record { sides = (q z).sides; unbound = (q z).unbound; untouched = (q z).untouched };
             folds = λ row i w h q z. record { sides = shifted _ (q z).sides; unbound = (q z).unbound; untouched = (q z).untouched };
             relaxes = λ row b c l h e q z. absurd (bound_not e (q z).unbound);

@@ -27,7 +27,7 @@ odd_number d s (suc q) k l = refl
 
 units_number : (f : Format) (s : Bool) (q k : ℕ) → is_nan (units f s q k) ≡ false
 unfolding units is_nan
-units_number f s q k = either (ltb (q * 2 ^ k) (2 ^ (low f + suc (emax f)))) (odd (suc (prec f)) s q k (low f)) (inf s) (odd_number _ s q k _) refl
+units_number f s q k = either (ltb (q * 2 ^ k) (2 ^ (low f + suc (emax f)))) (odd (suc (prec f)) s q k (low f)) (inf s) (odd_number (suc (prec f)) s q k (low f)) refl
 
 round_number : (f : Format) (s : Bool) (n d : ℕ) → is_nan (round f s n d) ≡ false
 unfolding round

@@ -61,9 +61,11 @@ holds false e = true≢false e refl
 
 first : (a b : Bool) → T (a && b) → T a
 first true b t = tt
+first false b t = elim t [ ]
 
 second : (a b : Bool) → T (a && b) → T b
 second true b t = t
+second false b t = elim t [ ]
 
 below_level : (s : Bool) (a : ℕ) (t : Bool) (b : ℕ) → T (below s a t b) → T (level s a t b) → ⊥
 below_level false a false b h k = let x : a < b = ltb→lt a b h in let y : a ≡ b = eqb→eq a b (first (eqb a b) _ k) in omega arith

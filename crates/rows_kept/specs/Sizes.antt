@@ -38,7 +38,7 @@ steps M r =
     record {
       folding =
           record {
-            as_written = λ S. omega (arith, written_short M r);
+            as_written_lem = λ S. omega (arith, written_short M r);
             removes = λ row i h q S. omega (arith, q S, length_swap row.terms i);
             folds = λ row i w h q S. omega (arith, q S, h S, length_swap row.terms i, length-append row.folded (get_or row.terms i no_term ∷ []));
             relaxes = λ row b c l h e q S. q S;

@@ -39,7 +39,7 @@ short_kept M h r =
     record {
       folding =
           record {
-            as_written = omega (arith, written_short M r, h r);
+            as_written_lem = omega (arith, written_short M r, h r);
             removes = λ row i l q. omega (arith, q, length_swap row.terms i);
             folds = λ row i w l q. omega (arith, q, length_swap row.terms i);
             relaxes = λ row b c l u e q. q;

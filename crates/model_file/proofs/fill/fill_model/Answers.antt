@@ -20,7 +20,7 @@ returns-in-Refused-fill_variables c = absurd (ready_no c.requires (c.read_settin
 pub fill_rows-requires : goal.fill_rows-requires
 fill_rows-requires c = let p = c.read_settings.ensures ∙ ap (settings_got _) c.in-Got.is in
     let q = c.fill_variables.ensures.place ∙ ap (next_got _) c.in-At.is in
-    (ready_rows c.requires p q, ready_terms c.requires p q)
+    record { n_in_bounds = ready_rows c.requires p q; within = ready_terms c.requires p q }
 
 pub returns : goal.returns
 returns c = ready_end c.requires (c.read_settings.ensures ∙ ap (settings_got _) c.in-Got.is)
