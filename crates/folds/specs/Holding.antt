@@ -176,6 +176,7 @@ module _ {P : Model → Type 0} {s : Shape} {r : ℕ} (f : Floats) (n : Numbers)
 -- ---- fold_fixed
 is_true : (b : Bool) → T b → b ≡ true
 is_true true h = refl
+is_true false h = elim h [ ]
 
 is_false : (b : Bool) → (T b → ⊥) → b ≡ false
 is_false true h = absurd (h tt)

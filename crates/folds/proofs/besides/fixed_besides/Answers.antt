@@ -25,8 +25,7 @@ overflow_sub-e c = omega (
 )
 
 pub fixed_term-sum-requires : goal.fixed_term-sum-requires
-fixed_term-sum-requires c = (
-  (
+fixed_term-sum-requires c = record { k_bound = (
     omega (arith, binaries_in c.requires.r_lt_rows.0 c.requires.standing, c.get_binaries-k.ensures),
     omega (
       arith,
@@ -37,9 +36,7 @@ fixed_term-sum-requires c = (
     ),
     search rules,
     search rules,
-  ),
-  folded_in c.requires.r_lt_rows.0 c.requires.standing _ (omega arith) refl,
-)
+  ); i_bound = folded_in c.requires.r_lt_rows.0 c.requires.standing _ (omega arith) refl }
 
 pub loop-j-preserved : goal.loop-j-preserved
 loop-j-preserved c = (omega arith, summed_more _ _ _ c.loop-j.invariant.1 (omega arith) refl refl c.fixed_term-sum.ensures)
