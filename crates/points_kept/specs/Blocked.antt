@@ -74,13 +74,24 @@ Falls v rows r = T (get_or rows r no_row).alive → Unblocked (is_finite (get_or
 abbrev pub Rises : ℕ → List Row → ℕ → Type 0
 Rises v rows r = T (get_or rows r no_row).alive → Unblocked (is_finite (get_or rows r no_row).hi) (is_finite (get_or rows r no_row).lo) v (get_or rows r no_row).terms
 
+-- of the first row and of those after it
+falls_cons : (v : ℕ) (row : Row) (rows : List Row) → (T row.alive → Unblocked (is_finite row.lo) (is_finite row.hi) v row.terms)
+    → ((r : ℕ) → Falls v rows r) → (r : ℕ) → Falls v (row ∷ rows) r
+falls_cons v row rows f g zero = f
+falls_cons v row rows f g (suc r) = g r
+
+rises_cons : (v : ℕ) (row : Row) (rows : List Row) → (T row.alive → Unblocked (is_finite row.hi) (is_finite row.lo) v row.terms)
+    → ((r : ℕ) → Rises v rows r) → (r : ℕ) → Rises v (row ∷ rows) r
+rises_cons v row rows f g zero = f
+rises_cons v row rows f g (suc r) = g r
+
 dec_clear : (v : ℕ) (rows : List Row) (bad : List Bool) → v < length bad → Clear v (bad_dec rows bad) → Clear v bad × ((r : ℕ) → Falls v rows r)
 unfolding bad_dec
 dec_clear v [] bad h n = (n, λ r a. absurd a)
 dec_clear v (row ∷ rows) bad h n =
     let i = dec_clear v rows _ (row_length (is_finite row.lo) (is_finite row.hi) v row bad row.alive h) n in
     let j = row_clear (is_finite row.lo) (is_finite row.hi) v row bad row.alive h i.0 in
-    (j.0, λ r. elim r [ zero ↦ j.1 | suc q ↦ i.1 q ])
+    (j.0, falls_cons v row rows j.1 i.1)
 
 inc_clear : (v : ℕ) (rows : List Row) (bad : List Bool) → v < length bad → Clear v (bad_inc rows bad) → Clear v bad × ((r : ℕ) → Rises v rows r)
 unfolding bad_inc
@@ -88,7 +99,7 @@ inc_clear v [] bad h n = (n, λ r a. absurd a)
 inc_clear v (row ∷ rows) bad h n =
     let i = inc_clear v rows _ (row_length (is_finite row.hi) (is_finite row.lo) v row bad row.alive h) n in
     let j = row_clear (is_finite row.hi) (is_finite row.lo) v row bad row.alive h i.0 in
-    (j.0, λ r. elim r [ zero ↦ j.1 | suc q ↦ i.1 q ])
+    (j.0, rises_cons v row rows j.1 i.1)
 
 none_length : (n : ℕ) → length (none_bad n) ≡ n
 unfolding none_bad

@@ -20,7 +20,7 @@ returns-in-Refused c = c.print_refusal.ensures ∙ ap
 pub returns-in-Infeasible : goal.returns-in-Infeasible
 returns-in-Infeasible c = let after-print-answer = c.before.before in let after-counts-of = after-print-answer.before.before in c.print_answer.ensures ∙ ap
     (λ (t : List ℕ). printed t
-    c.args.text.now) (infeasible_text_lem _ _ _ c.in-Infeasible.is after-counts-of.Counts-of.ensures _ _ _ _ _ _ _ _ _ _
+    c.args.text.now) (infeasible_text_lem _ _ _ c.in-Infeasible.is c.counts_of.ensures _ _ _ _ _ _ _ _ _ _
     _ _ _)
 
 pub returns-in-Presolved : goal.returns-in-Presolved

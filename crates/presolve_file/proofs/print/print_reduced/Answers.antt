@@ -51,4 +51,4 @@ slice_bounds-print_answer-end-10 c = sym (length-take-le _ _
 pub returns : goal.returns
 returns c = let after-print-answer = c.before.before in let after-counts-of = after-print-answer.before.before.before.before.before.before.before.before.before.before.before.before in c.print_answer.ensures ∙ ap
     (λ (t : List ℕ). printed t
-    c.args.text.now) (fronts_text_lem _ _ _ _ c.kind_of.ensures after-counts-of.Counts-of.ensures)
+    c.args.text.now) (fronts_text_lem _ _ _ _ c.kind_of.ensures c.counts_of.ensures)

@@ -14,10 +14,10 @@ pub loop-k-init : goal.loop-k-init
 loop-k-init c = start _ _
 
 pub returns-then-not-is_finite : goal.returns-then-not-is_finite
-returns-then-not-is_finite c = found _ _ _ (omega arith) (ap not (sym c.is_finite.ensures) ∙ c.if-not-is_finite.true)
+returns-then-not-is_finite c = found _ _ _ (omega arith) (ap not (sym c.is_finite.ensures ∙ c.if-not-is_finite.true))
 
 pub loop-k-preserved : goal.loop-k-preserved
-loop-k-preserved c = turn c.loop-k.invariant (omega arith) (ap not (sym c.is_finite.ensures) ∙ c.if-not-is_finite.false)
+loop-k-preserved c = turn c.loop-k.invariant (omega arith) (ap not (sym c.is_finite.ensures ∙ c.if-not-is_finite.false))
 
 pub returns : goal.returns
 returns c = search (end, rules)

@@ -17,11 +17,11 @@ loop-r-init c = start _ _
 
 pub returns-then-not-valid_rhs : goal.returns-then-not-valid_rhs
 unfolding rhses_wrong rhs_wrong op_of rhs_of
-returns-then-not-valid_rhs c = found _ _ _ (omega arith) (ap not (sym c.valid_rhs.ensures) ∙ c.if-not-valid_rhs.true)
+returns-then-not-valid_rhs c = found _ _ _ (omega arith) (ap not (sym c.valid_rhs.ensures ∙ c.if-not-valid_rhs.true))
 
 pub loop-r-preserved : goal.loop-r-preserved
 unfolding rhses_wrong rhs_wrong op_of rhs_of
-loop-r-preserved c = turn c.loop-r.invariant (omega arith) (ap not (sym c.valid_rhs.ensures) ∙ c.if-not-valid_rhs.false)
+loop-r-preserved c = turn c.loop-r.invariant (omega arith) (ap not (sym c.valid_rhs.ensures ∙ c.if-not-valid_rhs.false))
 
 pub returns : goal.returns
 unfolding rhses_wrong rhs_wrong op_of rhs_of

@@ -6,4 +6,4 @@ use Rattle.refuse.proofs.rows.starts_wrong.Goals as goal
 
 pub returns : goal.returns
 unfolding starts_wrong start_falls from upto
-returns c = rw c.before.start_Falls.ensures
+returns c = rw c.before.start_falls.ensures
