@@ -13,10 +13,10 @@ use Rattle.floats.specs.Num.{0f}
 use Rattle.tolerances.specs.Tol.{Term, term}
 use Rattle.definition.specs.Model.{Model, Row, Binding, with_range, with_binding, rhs_mag}
 use Rattle.definition.specs.Work.{Work, no_term, has, has_term}
-use Rattle.definition.specs.Rewrites.{Form, leForm, geForm, noForm, Rewrite, keeps, coeff_only, coeff_bound}
+use Rattle.definition.specs.Rewrites.{Form, le_form, ge_form, no_form, Rewrite, keeps, coeff_only, coeff_bound}
 use Rattle.definition.specs.Bindings.{taken, rewrite_binding}
 use Rattle.definition.specs.Tighten.{set_coeff, rebound_row, row_after}
-use Rattle.view.specs.Inv.{Distinct, distinct∷, AllIn, all_in∷, has_nonzero, BinariesIn, binariesIn[], binaries_in∷, BindingIn, none_in, some_in, RowInv}
+use Rattle.view.specs.Inv.{Distinct, distinct∷, AllIn, all_in∷, has_nonzero, BinariesIn, binaries_in[], binaries_in∷, BindingIn, none_in, some_in, RowInv}
 use Rattle.view.specs.Lists.{either}
 use Rattle.readers.specs.RowAt.{or_true}
 use Rattle.folds.specs.Written.{eqb_same, eqb_differ}
@@ -65,7 +65,7 @@ module _ (us : List Term) (t : Term) where
 -- ---- the binaries of a row whose terms lose no variable that is not zero
 pub binaries_by : {M : Model} {r : ℕ} {x y : Row} → ((v : ℕ) → has_nonzero v (x.terms ++ x.folded) ≡ true → has_nonzero v (y.terms ++ y.folded) ≡ true)
     → {vs : List ℕ} → BinariesIn M r x vs → BinariesIn M r y vs
-binaries_by k binariesIn[] = binariesIn[]
+binaries_by k binaries_in[] = binaries_in[]
 binaries_by k (binaries_in∷ {v} h e b) = binaries_in∷ h (k v e) (binaries_by k b)
 
 pub binding_by : {M : Model} {r : ℕ} {x y : Row} → ((v : ℕ) → has_nonzero v (x.terms ++ x.folded) ≡ true → has_nonzero v (y.terms ++ y.folded) ≡ true)
@@ -114,7 +114,7 @@ differ_sym u v e = eqb_differ u v (λ g. true_false (sym (eqb_same v u (sym g)) 
 
 pub binaries_snoc : {M : Model} {r : ℕ} {row : Row} {vs : List ℕ} (u : ℕ) → BinariesIn M r row vs → has u vs ≡ false → has_nonzero u (row.terms ++ row.folded)
     ≡ true → BinariesIn M r row (vs ++ (u ∷ []))
-binaries_snoc u binariesIn[] h e = binaries_in∷ h e binariesIn[]
+binaries_snoc u binaries_in[] h e = binaries_in∷ h e binaries_in[]
 binaries_snoc u (binaries_in∷ {v} {vs} g d b) h e =
     binaries_in∷ (has_snoc v u vs g (differ_sym u v (has_first u v vs h))) d (binaries_snoc u b (has_later u v vs h) e)
 
@@ -132,7 +132,7 @@ set_new us v a z (x ∷ ts) (suc i) p = or_right (eqb x.var v && not (eq x.coeff
 
 pub taken_in : {M : Model} {r : ℕ} {row : Row} (mag : Float) {o : Option Binding} → BindingIn M r row o → BinariesIn M r row (taken mag o).binaries
 unfolding taken
-taken_in mag none_in = binariesIn[]
+taken_in mag none_in = binaries_in[]
 taken_in mag (some_in b) = b
 
 -- the binding that rewrite_binding makes, of a row that holds v's new coefficient
@@ -158,9 +158,9 @@ module _ {M : Model} {r : ℕ} (w : Work) (row : Row) (i v : ℕ) (a na bp : Flo
 
   rebound_inv : (f : Form) → RowInv M r (rebound_row M f w row i v a na bp)
   unfolding rebound_row
-  rebound_inv leForm = rebind_inv row.hi row.lo _
-  rebound_inv geForm = rebind_inv row.lo _ row.hi
-  rebound_inv noForm = n
+  rebound_inv le_form = rebind_inv row.hi row.lo _
+  rebound_inv ge_form = rebind_inv row.lo _ row.hi
+  rebound_inv no_form = n
 
 pub after_inv : {M : Model} {r : ℕ} (f : Form) (w : Work) (row : Row) (i : ℕ) (x : Rewrite) → i < length row.terms → Nonzero x → RowInv M r row
     → RowInv M r (row_after M f w row i (get_or row.terms i no_term) x)

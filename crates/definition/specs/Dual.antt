@@ -11,11 +11,11 @@ use Rattle.definition.specs.Model.{Model, is_int, Row}
 use Rattle.definition.specs.Work.{Work, fixed}
 use Rattle.definition.specs.Bounds.{fix}
 
--- which variables a row's terms keep from moving: ifPos of a positive coefficient, ifNeg of any other, a zero among them
+-- which variables a row's terms keep from moving: if_pos of a positive coefficient, if_neg of any other, a zero among them
 unfoldable pub block_terms : Bool → Bool → List Term → List Bool → List Bool
-block_terms ifPos ifNeg [] bad = bad
-block_terms ifPos ifNeg (t ∷ ts) bad =
-    block_terms ifPos ifNeg ts (choose (choose (gt t.coeff 0f) ifPos ifNeg) (set bad t.var true) bad)
+block_terms if_pos if_neg [] bad = bad
+block_terms if_pos if_neg (t ∷ ts) bad =
+    block_terms if_pos if_neg ts (choose (choose (gt t.coeff 0f) if_pos if_neg) (set bad t.var true) bad)
 
 -- from falling, and from rising
 unfoldable pub bad_dec : List Row → List Bool → List Bool

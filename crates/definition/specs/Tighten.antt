@@ -14,7 +14,7 @@ use Rattle.definition.specs.Model.{Model, is_int_domain, Row, with_touched, with
 use Rattle.definition.specs.Work.{Work, with_marks, with_row, with_counts, no_row, no_term}
 use Rattle.definition.specs.Activities.{activity}
 use Rattle.definition.specs.Folds.{gives_back, given_back}
-use Rattle.definition.specs.Rewrites.{Form, leForm, geForm, noForm, form_of, Rewrite, keeps, coeff_only, coeff_bound, rewrites, vacuous_room, act_after, vacuous}
+use Rattle.definition.specs.Rewrites.{Form, le_form, ge_form, no_form, form_of, Rewrite, keeps, coeff_only, coeff_bound, rewrites, vacuous_room, act_after, vacuous}
 use Rattle.definition.specs.Bindings.{rewrite_binding, growth}
 
 -- the row, its activity kept up to date, the state, whether some row was rewritten, and whether the loop was left
@@ -51,15 +51,15 @@ module _ (M : Model) where
 
   -- the row after a rewrite that moves its bound
   unfoldable pub rebound_row : Form → Work → Row → ℕ → ℕ → Float → Float → Float → Row
-  rebound_row leForm w row i v a na bp =
+  rebound_row le_form w row i v a na bp =
       let row1 = set_coeff i v na row in
       let bd = rewrite_binding M w row1 v a row.hi bp in
       with_binding (some bd) (with_range row.lo (bp ⊕ growth M row.hi row bd) row1)
-  rebound_row geForm w row i v a na bp =
+  rebound_row ge_form w row i v a na bp =
       let row1 = set_coeff i v na row in
       let bd = rewrite_binding M w row1 v a row.lo bp in
       with_binding (some bd) (with_range (bp ⊖ growth M row.lo row bd) row.hi row1)
-  rebound_row noForm w row i v a na bp = row
+  rebound_row no_form w row i v a na bp = row
 
   unfoldable pub row_after : Form → Work → Row → ℕ → Term → Rewrite → Row
   row_after f w row i t keeps = row
@@ -98,9 +98,9 @@ module _ (M : Model) where
       (with_row r s.row s.work, s.changed))
 
   unfoldable pub tighten_by : Form → ℕ → Row → Work → Bool → Work × Bool
-  tighten_by leForm r row w changed = tighten_form leForm r row w changed
-  tighten_by geForm r row w changed = tighten_form geForm r row w changed
-  tighten_by noForm r row w changed = (w, changed)
+  tighten_by le_form r row w changed = tighten_form le_form r row w changed
+  tighten_by ge_form r row w changed = tighten_form ge_form r row w changed
+  tighten_by no_form r row w changed = (w, changed)
 
   -- only a row whose inputs changed since this pass last saw it
   unfoldable pub tighten_row : ℕ → Work → Bool → Work × Bool

@@ -9,7 +9,7 @@ use Rattle.tolerances.specs.Tol.{Term}
 use Rattle.definition.specs.Model.{Model, Row, Binding, with_terms}
 use Rattle.definition.specs.Work.{Work, no_term, fixed}
 use Rattle.definition.specs.Folds.{swap_remove, fold_term, fold_step, fold_loop}
-use Rattle.view.specs.Inv.{BinariesIn, binariesIn[], binaries_in∷, BindingIn, none_in, some_in, RowInv}
+use Rattle.view.specs.Inv.{BinariesIn, binaries_in[], binaries_in∷, BindingIn, none_in, some_in, RowInv}
 use Rattle.view.specs.Lists.{either}
 use Rattle.folds.specs.Counting.{true_false, bit, count_by, count_append, count_swap, or_count, count_or, is_var, is_nonzero, nonzero_or, distinct_count, count_distinct, all_in_count, count_all_in}
 use Rattle.folds.specs.Folding.{swap_length}
@@ -42,7 +42,7 @@ folds_then a b =
 
 -- ---- the invariant is kept
 pub binaries_too : {M : Model} {r : ℕ} {x y : Row} {vs : List ℕ} → ((v : ℕ) → count_by (is_nonzero v) (terms_of x) ≤ count_by (is_nonzero v) (terms_of y)) → BinariesIn M r x vs → BinariesIn M r y vs
-binaries_too h binariesIn[] = binariesIn[]
+binaries_too h binaries_in[] = binaries_in[]
 binaries_too {x = x} {y} h (binaries_in∷ {v} e n b) =
     let z = or_count (is_nonzero v) (terms_of x) (sym (nonzero_or v (terms_of x)) ∙ n) in
     binaries_in∷ e (nonzero_or v (terms_of y) ∙ count_or (is_nonzero v) (terms_of y) (omega (arith, z, h v))) (binaries_too h b)

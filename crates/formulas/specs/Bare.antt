@@ -8,7 +8,7 @@ use Rattle.definition.specs.Params.{params}
 use Rattle.definition.specs.Model.{Model, Row, nnz, rhs_mag}
 use Rattle.definition.specs.Sides.{hi_side, lo_side, mag_l, mag_u, within_lo, within_hi, within, within_by, side_mag, mag_both, budget_l, budget_u, above_hi, below_lo, unreachable, near_min, near_max, redundant}
 use Rattle.definition.specs.Singles.{finite_mag, room_at, widened_at, dropped_room, new_lower, new_upper}
-use Rattle.definition.specs.Rewrites.{Form, leForm, geForm, noForm, form_of, vacuous_room, vacuous_le, vacuous_ge, vacuous}
+use Rattle.definition.specs.Rewrites.{Form, le_form, ge_form, no_form, form_of, vacuous_room, vacuous_le, vacuous_ge, vacuous}
 use Rattle.formulas.specs.declared.Limits.{Limits}
 
 -- the row of these four floats, and of nothing else
@@ -140,9 +140,9 @@ module _ {x : Limits} {w : Row} where
 
     pub vacuous_of : (f : Form) (nz : Float) (act : Activity) (a : Float) → Has x w → vacuous M f nz (bare x) act a ≡ vacuous M f nz w act a
     unfolding vacuous
-    vacuous_of leForm nz act a h = cc (vacuous_le_of nz act a h)
-    vacuous_of geForm nz act a h = cc (vacuous_ge_of nz act a h)
-    vacuous_of noForm nz act a h = refl
+    vacuous_of le_form nz act a h = cc (vacuous_le_of nz act a h)
+    vacuous_of ge_form nz act a h = cc (vacuous_ge_of nz act a h)
+    vacuous_of no_form nz act a h = refl
 
   pub form_of_of : Has x w → form_of (bare x) ≡ form_of w
   unfolding form_of
@@ -150,6 +150,6 @@ module _ {x : Limits} {w : Row} where
 
   pub vacuous_room_of : (f : Form) (act : Activity) → Has x w → vacuous_room f (bare x) act ≡ vacuous_room f w act
   unfolding vacuous_room rhs_mag
-  vacuous_room_of leForm act h = cc
-  vacuous_room_of geForm act h = cc
-  vacuous_room_of noForm act h = refl
+  vacuous_room_of le_form act h = cc
+  vacuous_room_of ge_form act h = cc
+  vacuous_room_of no_form act h = refl

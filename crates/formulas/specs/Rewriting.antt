@@ -17,9 +17,9 @@ use Rattle.formulas.specs.declared.Rewrite.TheVariants.{Keeps, Coeff, CoeffBound
 use Rattle.formulas.specs.Bare.{bare, Has, vacuous_of}
 
 abbrev pub form_is : Form → defs.Form
-form_is Le = defs.leForm
-form_is Ge = defs.geForm
-form_is Neither = defs.noForm
+form_is Le = defs.le_form
+form_is Ge = defs.ge_form
+form_is Neither = defs.no_form
 
 abbrev pub rewrite_is : Rewrite → defs.Rewrite
 rewrite_is Keeps = defs.keeps

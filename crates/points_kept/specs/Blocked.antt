@@ -13,16 +13,16 @@ use Rattle.points_kept.specs.Terms.{All, all_map}
 
 -- no term of v is one that blocks
 abbrev Free : Bool → Bool → ℕ → List Term → Type 0
-Free ifPos ifNeg v ts = All (λ t. t.var ≡ v → T (not (choose (gt t.coeff 0f) ifPos ifNeg))) ts
+Free if_pos if_neg v ts = All (λ t. t.var ≡ v → T (not (choose (gt t.coeff 0f) if_pos if_neg))) ts
 
 -- which says of v's coefficients: none is positive where positive ones block, and all are where the others do
-pub record Unblocked (ifPos ifNeg : Bool) (v : ℕ) (ts : List Term) : Type 0 where
-  pub minus : T ifPos → All (λ t. t.var ≡ v → T (not (gt t.coeff 0f))) ts
-  pub plus : T ifNeg → All (λ t. t.var ≡ v → T (gt t.coeff 0f)) ts
+pub record Unblocked (if_pos if_neg : Bool) (v : ℕ) (ts : List Term) : Type 0 where
+  pub minus : T if_pos → All (λ t. t.var ≡ v → T (not (gt t.coeff 0f))) ts
+  pub plus : T if_neg → All (λ t. t.var ≡ v → T (gt t.coeff 0f)) ts
 
-unblocked : (ifPos ifNeg : Bool) (v : ℕ) (ts : List Term) → Free ifPos ifNeg v ts → Unblocked ifPos ifNeg v ts
-unblocked ifPos ifNeg v ts f =
-    record { minus = λ p. all_map ts (λ t h e. not_so (gt t.coeff 0f) ifPos ifNeg p (h e)) f; plus = λ q. all_map ts (λ t h e. so (gt t.coeff 0f) ifPos ifNeg q (h e)) f }
+unblocked : (if_pos if_neg : Bool) (v : ℕ) (ts : List Term) → Free if_pos if_neg v ts → Unblocked if_pos if_neg v ts
+unblocked if_pos if_neg v ts f =
+    record { minus = λ p. all_map ts (λ t h e. not_so (gt t.coeff 0f) if_pos if_neg p (h e)) f; plus = λ q. all_map ts (λ t h e. so (gt t.coeff 0f) if_pos if_neg q (h e)) f }
   where
     not_so : (b p q : Bool) → T p → T (not (choose b p q)) → T (not b)
     not_so b p q t n = elim (test b) [ inl h ↦ absurd (never p (subst (λ (c : Bool). T (not c)) (chosen b p q h) n) t) | inr h ↦ h ]

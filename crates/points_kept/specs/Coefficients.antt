@@ -10,7 +10,7 @@ use Rattle.std.proofs.Math.ListN.{get_or}
 use Rattle.definition.specs.Model.{Model, nnz, Row, as_written}
 use Rattle.definition.specs.Work.{Work, with_row, no_row}
 use Rattle.definition.specs.Folds.{given_back}
-use Rattle.definition.specs.Rewrites.{Form, leForm, geForm, noForm, form_of}
+use Rattle.definition.specs.Rewrites.{Form, le_form, ge_form, no_form, form_of}
 use Rattle.definition.specs.Tighten.{tighten_by, Rewriting, queued, rewrite_step, rewrite_loop, tighten_form, tighten_row, tighten_from, tighten_binary_coeffs}
 use Rattle.points_kept.specs.Statements.{PointSet, PureInteger}
 use Rattle.definition.specs.Choices.{both}
@@ -97,15 +97,15 @@ module _ (M : Model) (Sought : PointSet) (pure : PureInteger M) where
 
   by_ok : (f : Form) (r : ℕ) (row : Row) (w : Work) (c : Bool) → r < length M.rhs → GoodW M Sought w → RowOk M w.elo w.ehi r row → T row.alive → OkP (tighten_by M f r row w c)
   unfolding tighten_by
-  by_ok leForm r row w c hr g o a = form_ok leForm r row w c hr g o a
-  by_ok geForm r row w c hr g o a = form_ok geForm r row w c hr g o a
-  by_ok noForm r row w c hr g o a = inl g
+  by_ok le_form r row w c hr g o a = form_ok le_form r row w c hr g o a
+  by_ok ge_form r row w c hr g o a = form_ok ge_form r row w c hr g o a
+  by_ok no_form r row w c hr g o a = inl g
 
   count_by_lem : (f : Form) (r : ℕ) (row : Row) (w : Work) (c : Bool) → 0 < w.counts.coeffsTightened → Up (tighten_by M f r row w c)
   unfolding tighten_by
-  count_by_lem leForm r row w c h = count_form leForm r row w c h
-  count_by_lem geForm r row w c h = count_form geForm r row w c h
-  count_by_lem noForm r row w c h = h
+  count_by_lem le_form r row w c h = count_form le_form r row w c h
+  count_by_lem ge_form r row w c h = count_form ge_form r row w c h
+  count_by_lem no_form r row w c h = h
 
   row_ok : (r : ℕ) (w : Work) (c : Bool) → Ok M Sought w → OkP (tighten_row M r w c)
   unfolding tighten_row

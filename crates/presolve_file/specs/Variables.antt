@@ -9,7 +9,7 @@ use Rattle.tolerances.specs.Tol.{Term, zip_terms}
 use Rattle.definition.specs.Model.{Model, Row, Binding, Reduced, done, written, nnz, from, with_alive, with_range, with_binding, as_written}
 use Rattle.definition.specs.Work.{Work, no_term, no_row, drop_row}
 use Rattle.definition.specs.Folds.{swap_remove, fold_term, fold_step, fold_loop, widen, relax_with, relax_binding, given_back, hold_rewrites, fold_fixed}
-use Rattle.definition.specs.Rewrites.{Form, leForm, geForm, noForm, Rewrite, keeps, coeff_only, coeff_bound}
+use Rattle.definition.specs.Rewrites.{Form, le_form, ge_form, no_form, Rewrite, keeps, coeff_only, coeff_bound}
 use Rattle.definition.specs.Tighten.{Rewriting, set_coeff, rebound_row, row_after, rewrite_step, rewrite_loop}
 use Rattle.definition.specs.Emit.{insert_term, sort_terms, Out, final}
 use Rattle.definition.specs.Presolve.{presolve}
@@ -115,9 +115,9 @@ module _ (M : Model) (n : ℕ) (above : 0 < n) (given_below : All (λ (v : ℕ).
 
   rebound : (f : Form) (w : Work) (row : Row) (i : ℕ) (a na bp : Float) → Within row → Within (rebound_row M f w row i (get_or row.terms i no_term).var a na bp)
   unfolding rebound_row
-  rebound leForm w row i a na bp q = ranged _ _ _ _ (set_coeff_lem row i na q)
-  rebound geForm w row i a na bp q = ranged _ _ _ _ (set_coeff_lem row i na q)
-  rebound noForm w row i a na bp q = q
+  rebound le_form w row i a na bp q = ranged _ _ _ _ (set_coeff_lem row i na q)
+  rebound ge_form w row i a na bp q = ranged _ _ _ _ (set_coeff_lem row i na q)
+  rebound no_form w row i a na bp q = q
 
   row_after_lem : (f : Form) (w : Work) (row : Row) (i : ℕ) (x : Rewrite) → Within row → Within (row_after M f w row i (get_or row.terms i no_term) x)
   unfolding row_after

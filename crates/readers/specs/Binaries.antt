@@ -15,7 +15,7 @@ use Rattle.space.specs.declared.Shape.{Shape}
 use Rattle.space.specs.Store.{Floats, Numbers}
 use Rattle.view.specs.Call.{Call}
 use Rattle.view.specs.Shows.{Shows, Parts, BindingShown, unbound, is_bound}
-use Rattle.view.specs.Inv.{Inv, AllIn, all_in[], all_in∷, BinariesIn, binariesIn[], binaries_in∷, has_nonzero, BindingIn, some_in}
+use Rattle.view.specs.Inv.{Inv, AllIn, all_in[], all_in∷, BinariesIn, binaries_in[], binaries_in∷, has_nonzero, BindingIn, some_in}
 use Rattle.view.specs.Acts.{Ready}
 use Rattle.view.specs.Known.{Written}
 use Rattle.readers.specs.Reading.{row_of, Alive}
@@ -41,7 +41,7 @@ nonzero_has v (t ∷ ts) e =
     or_right false e = e
 
 nth_binary : {M : Model} {r : ℕ} {row : Row} {vs : List ℕ} → BinariesIn M r row vs → (k : ℕ) → k < length vs → has_term (get_or vs k 0) (row.terms ++ row.folded) ≡ true
-nth_binary binariesIn[] k l = absurd (omega arith)
+nth_binary binaries_in[] k l = absurd (omega arith)
 nth_binary {row = row} (binaries_in∷ {v} d e b) zero l = nonzero_has v (row.terms ++ row.folded) e
 nth_binary (binaries_in∷ d e b) (suc k) l = nth_binary b k (omega arith)
 

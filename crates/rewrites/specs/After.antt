@@ -10,7 +10,7 @@ use Rattle.definition.specs.Model.{Model, Row, Binding, with_range, with_binding
 use Rattle.definition.specs.Work.{Work, with_row, no_term, has}
 use Rattle.definition.specs.Folds.{rewrite_room}
 use Rattle.definition.specs.Bindings.{sum_coeffs, taken, rewrite_binding, growth}
-use Rattle.definition.specs.Rewrites.{Form, leForm, geForm, noForm, Rewrite, keeps, coeff_only, coeff_bound}
+use Rattle.definition.specs.Rewrites.{Form, le_form, ge_form, no_form, Rewrite, keeps, coeff_only, coeff_bound}
 use Rattle.definition.specs.Tighten.{set_coeff, rebound_row, row_after}
 use Rattle.formulas.specs.declared.Form as forms
 use Rattle.formulas.specs.declared.Form.TheVariants.{Le, Ge, Neither}
@@ -128,11 +128,11 @@ module _ (M : Model) (w : Work) (x : Row) (i v : ℕ) (a na bp : Float) {b grown
       ∙ ap (λ (u : Float). with_binding (some (rewrite_binding M w (set_coeff i v na x) v a u bp))
       (with_range (bp ⊖ growth M u x (rewrite_binding M w (set_coeff i v na x) v a u bp)) x.hi (set_coeff i v na x))) e
 
-  pub le_is : b ≡ x.hi → with_range (both_of i v a na b bp M w x).lo (bp ⊕ grown) (both_of i v a na b bp M w x) ≡ rebound_row M leForm w x i v a na bp
+  pub le_is : b ≡ x.hi → with_range (both_of i v a na b bp M w x).lo (bp ⊕ grown) (both_of i v a na b bp M w x) ≡ rebound_row M le_form w x i v a na bp
   unfolding rebound_row set_coeff
   le_is e = le_row x.hi e
 
-  pub ge_is : b ≡ x.lo → with_range (bp ⊖ grown) (both_of i v a na b bp M w x).hi (both_of i v a na b bp M w x) ≡ rebound_row M geForm w x i v a na bp
+  pub ge_is : b ≡ x.lo → with_range (bp ⊖ grown) (both_of i v a na b bp M w x).hi (both_of i v a na b bp M w x) ≡ rebound_row M ge_form w x i v a na bp
   unfolding rebound_row set_coeff
   ge_is e = ge_row x.lo e
 
@@ -170,7 +170,7 @@ module _ {ss : List ℕ} {s : Shape} {f : Floats} {n : Numbers} {r i v : ℕ} (a
       }
 
   pub le_acts : {f₃ : Floats} → length f₂.hi ≡ s.rows → b ≡ get_or f₁.hi r nan → f₃ ≡ put_hi r (bp ⊕ grown) f₂ → Acts (Spans ss) s f n f₃ n₂
-      (λ M w. with_row r (rebound_row M leForm w (row_of w r) i v a na bp) w)
+      (λ M w. with_row r (rebound_row M le_form w (row_of w r) i v a na bp) w)
   le_acts l eb e₃ =
       acts_again D.row both_acts both_stays (λ M w x. with_range x.lo (bp ⊕ grown) x)
       (turns_acts {F = λ M w x. with_range x.lo (bp ⊕ grown) x} D.row (alive_stays D.row both_acts both_stays R)
@@ -178,7 +178,7 @@ module _ {ss : List ℕ} {s : Shape} {f : Floats} {n : Numbers} {r i v : ℕ} (a
       (λ M o k w q c h j. le_is M w (row_of w r) i v a na bp (both_growth.reads M o k w q c h j) (eb ∙ ap (λ (g : Floats). get_or g.hi r nan) e₁ ∙ (row_shown c h D.row D.alive).hi))
 
   pub ge_acts : {f₃ : Floats} → length f₂.lo ≡ s.rows → b ≡ get_or f₁.lo r nan → f₃ ≡ put_lo r (bp ⊖ grown) f₂ → Acts (Spans ss) s f n f₃ n₂
-      (λ M w. with_row r (rebound_row M geForm w (row_of w r) i v a na bp) w)
+      (λ M w. with_row r (rebound_row M ge_form w (row_of w r) i v a na bp) w)
   ge_acts l eb e₃ =
       acts_again D.row both_acts both_stays (λ M w x. with_range (bp ⊖ grown) x.hi x)
       (turns_acts {F = λ M w x. with_range (bp ⊖ grown) x.hi x} D.row (alive_stays D.row both_acts both_stays R)
@@ -189,16 +189,16 @@ module _ {ss : List ℕ} {s : Shape} {f : Floats} {n : Numbers} {r i v : ℕ} (a
 abbrev pub Rebounds : (Model → Type 0) → Shape → Floats → Numbers → Floats → Numbers → ℕ → ℕ → ℕ → Float → Float → Float → Form → Type 0
 Rebounds P s f n f' n' r i v a na bp g = Acts P s f n f' n' (λ M w. with_row r (rebound_row M g w (row_of w r) i v a na bp) w)
 
-rebound_row_lem : (M : Model) (w : Work) (x : Row) (i v : ℕ) (a na bp : Float) → rebound_row M noForm w x i v a na bp ≡ x
+rebound_row_lem : (M : Model) (w : Work) (x : Row) (i v : ℕ) (a na bp : Float) → rebound_row M no_form w x i v a na bp ≡ x
 unfolding rebound_row
 rebound_row_lem M w x i v a na bp = refl
 
 module _ {P : Model → Type 0} {s : Shape} {f : Floats} {n : Numbers} (r i v : ℕ) (a na bp : Float) {g : forms.Form} where
   module _ {f' : Floats} {n' : Numbers} where
-    pub rebound_le : g ≡ Le → Rebounds P s f n f' n' r i v a na bp leForm → Rebounds P s f n f' n' r i v a na bp (form_is g)
+    pub rebound_le : g ≡ Le → Rebounds P s f n f' n' r i v a na bp le_form → Rebounds P s f n f' n' r i v a na bp (form_is g)
     rebound_le e A = subst (λ (h : forms.Form). Rebounds P s f n f' n' r i v a na bp (form_is h)) (sym e) A
 
-    pub rebound_ge : g ≡ Ge → Rebounds P s f n f' n' r i v a na bp geForm → Rebounds P s f n f' n' r i v a na bp (form_is g)
+    pub rebound_ge : g ≡ Ge → Rebounds P s f n f' n' r i v a na bp ge_form → Rebounds P s f n f' n' r i v a na bp (form_is g)
     rebound_ge e A = subst (λ (h : forms.Form). Rebounds P s f n f' n' r i v a na bp (form_is h)) (sym e) A
 
   pub rebound_none : g ≡ Neither → r < s.rows → Alive n r → Rebounds P s f n f n r i v a na bp (form_is g)
@@ -249,9 +249,9 @@ row_after_keeps {r = r} g i x w c p al l z j = inv_row r _ w j (λ _. after_inv 
 
 rebound_alive : (M : Model) (g : Form) (w : Work) (x : Row) (i v : ℕ) (a na bp : Float) → (rebound_row M g w x i v a na bp).alive ≡ x.alive
 unfolding rebound_row set_coeff
-rebound_alive M leForm w x i v a na bp = refl
-rebound_alive M geForm w x i v a na bp = refl
-rebound_alive M noForm w x i v a na bp = refl
+rebound_alive M le_form w x i v a na bp = refl
+rebound_alive M ge_form w x i v a na bp = refl
+rebound_alive M no_form w x i v a na bp = refl
 
 pub after_alive : (M : Model) (g : Form) (w : Work) (x : Row) (i : ℕ) (t : Term) (y : Rewrite) → (row_after M g w x i t y).alive ≡ x.alive
 unfolding row_after

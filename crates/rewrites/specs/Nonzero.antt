@@ -8,7 +8,7 @@ use Rattle.tolerances.specs.Tol.{Term}
 use Rattle.definition.specs.declared.Activity.{Activity}
 use Rattle.definition.specs.Model.{Model, Row}
 use Rattle.definition.specs.Work.{Work}
-use Rattle.definition.specs.Rewrites.{Form, leForm, geForm, noForm, Rewrite, keeps, shrink_le, raise_le, vacuous_le, shrink_ge, lower_ge, vacuous_ge, vacuous}
+use Rattle.definition.specs.Rewrites.{Form, le_form, ge_form, no_form, Rewrite, keeps, shrink_le, raise_le, vacuous_le, shrink_ge, lower_ge, vacuous_ge, vacuous}
 use Rattle.definition.specs.Tighten.{rewrite_of}
 use Rattle.view.specs.Lists.{either}
 use Rattle.folds.specs.Counting.{true_false}
@@ -102,9 +102,9 @@ module _ (M : Model) (nz : Float) where
 
     vacuous_nonzero : (f : Form) → Nonzero (vacuous M f nz row act a)
     unfolding vacuous
-    vacuous_nonzero leForm = either Nonzero _ (λ e. vacuous_le_lem) (λ e. nonzero_keeps)
-    vacuous_nonzero geForm = either Nonzero _ (λ e. vacuous_ge_lem) (λ e. nonzero_keeps)
-    vacuous_nonzero noForm = nonzero_keeps
+    vacuous_nonzero le_form = either Nonzero _ (λ e. vacuous_le_lem) (λ e. nonzero_keeps)
+    vacuous_nonzero ge_form = either Nonzero _ (λ e. vacuous_ge_lem) (λ e. nonzero_keeps)
+    vacuous_nonzero no_form = nonzero_keeps
 
   pub rewrite_nonzero : (f : Form) (w : Work) (row : Row) (act : Activity) (t : Term) → Nonzero (rewrite_of M f nz w row act t)
   unfolding rewrite_of

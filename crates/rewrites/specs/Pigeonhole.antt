@@ -5,7 +5,7 @@ use Rattle.floats.specs.Num.{choose}
 use Rattle.tolerances.specs.Tol.{Term}
 use Rattle.definition.specs.Model.{Model, Row}
 use Rattle.definition.specs.Work.{has, has_term}
-use Rattle.view.specs.Inv.{has_nonzero, BinariesIn, binariesIn[], binaries_in∷}
+use Rattle.view.specs.Inv.{has_nonzero, BinariesIn, binaries_in[], binaries_in∷}
 use Rattle.readers.specs.Binaries.{nonzero_has}
 use Rattle.folds.specs.Counting.{true_false}
 use Rattle.coeffs.specs.Keeping.{differ_sym, binaries_snoc}
@@ -68,11 +68,11 @@ once_fits {all} (once∷ {v} h o) (among∷ e a) = let z = once_fits o (among_wi
 -- ---- a row's terms
 -- ---- its rewritten binaries
 binaries_once : {M : Model} {r : ℕ} {row : Row} {vs : List ℕ} → BinariesIn M r row vs → Once vs
-binaries_once binariesIn[] = once[]
+binaries_once binaries_in[] = once[]
 binaries_once (binaries_in∷ h e b) = once∷ h (binaries_once b)
 
 binaries_among : {M : Model} {r : ℕ} {row : Row} {vs : List ℕ} → BinariesIn M r row vs → Among (row.terms ++ row.folded) vs
-binaries_among binariesIn[] = among[]
+binaries_among binaries_in[] = among[]
 binaries_among {row = row} (binaries_in∷ {v} h e b) = among∷ (nonzero_has v (row.terms ++ row.folded) e) (binaries_among b)
 
 pub binaries_fit : {M : Model} {r : ℕ} {row : Row} {vs : List ℕ} → BinariesIn M r row vs → length vs ≤ length row.terms + length row.folded

@@ -15,7 +15,7 @@ use Rattle.space.specs.declared.Shape.{Shape}
 use Rattle.space.specs.Store.{Floats, Numbers}
 use Rattle.view.specs.Call.{Call}
 use Rattle.view.specs.Shows.{Shows, Parts, BindingShown, unbound, is_bound}
-use Rattle.view.specs.Inv.{Inv, has_nonzero, BinariesIn, binariesIn[], BindingIn, none_in, some_in}
+use Rattle.view.specs.Inv.{Inv, has_nonzero, BinariesIn, binaries_in[], BindingIn, none_in, some_in}
 use Rattle.view.specs.Acts.{Ready, Acts, Reads}
 use Rattle.view.specs.Known.{Spans}
 use Rattle.view.specs.Lists.{yes, no}
@@ -171,7 +171,7 @@ some_has v [] e = true_false (sym e)
 some_has v (u ∷ vs) e = omega arith
 
 binaries_in : {M : Model} {r : ℕ} {x : Row} {o : Option Binding} → BindingIn M r x o → BinariesIn M r x (binaries_of o)
-binaries_in none_in = binariesIn[]
+binaries_in none_in = binaries_in[]
 binaries_in (some_in b) = b
 
 abbrev pub rebound : ℕ → ℕ → Float → Float → Float → Model → Work → Row

@@ -46,7 +46,7 @@ fn rebound_le(
     requires holds_f { HoldsF s w.old × HoldsN s m.old × Placed starts.now s (numbers_of s m.old) r i v × (eq na 0f ≡ false) }
     requires ready { Ready (Spans starts.now) s (floats_of s w.old) (numbers_of s m.old) }
     ensures { Acts (Spans starts.now) s (floats_of s w.old) (numbers_of s m.old) (floats_of s w.new)
-        (numbers_of s m.new) (λ M u. with_row r (rebound_row M defs.leForm u (row_of u r) i v a na bp) u) }
+        (numbers_of s m.new) (λ M u. with_row r (rebound_row M defs.le_form u (row_of u r) i v a na bp) u) }
 {
     set_coeff(starts, w, s, r, i, na);
     let b = space::get_hi(w, s, r);
@@ -70,7 +70,7 @@ fn rebound_ge(
     requires holds_f { HoldsF s w.old × HoldsN s m.old × Placed starts.now s (numbers_of s m.old) r i v × (eq na 0f ≡ false) }
     requires ready { Ready (Spans starts.now) s (floats_of s w.old) (numbers_of s m.old) }
     ensures { Acts (Spans starts.now) s (floats_of s w.old) (numbers_of s m.old) (floats_of s w.new)
-        (numbers_of s m.new) (λ M u. with_row r (rebound_row M defs.geForm u (row_of u r) i v a na bp) u) }
+        (numbers_of s m.new) (λ M u. with_row r (rebound_row M defs.ge_form u (row_of u r) i v a na bp) u) }
 {
     set_coeff(starts, w, s, r, i, na);
     let b = space::get_lo(w, s, r);

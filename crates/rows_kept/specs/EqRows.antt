@@ -7,7 +7,7 @@ use Rattle.floats.specs.Num.{choose, ◌⊖◌, is_finite}
 use Rattle.definition.specs.Model.{Model, op_of, Binding, Row, as_written, Emit}
 use Rattle.definition.specs.Work.{Work}
 use Rattle.definition.specs.Folds.{fold_term}
-use Rattle.definition.specs.Rewrites.{Form, leForm, geForm, noForm, form_of}
+use Rattle.definition.specs.Rewrites.{Form, le_form, ge_form, no_form, form_of}
 use Rattle.definition.specs.Tighten.{set_coeff}
 use Rattle.definition.specs.Emit.{Out, final}
 use Rattle.rows_kept.specs.Statements.{All, no_one, each}
@@ -30,14 +30,14 @@ abbrev NotEq : Model → ℕ → Type 0
 NotEq M r = op_of M r ≡ 0 → ⊥
 
 -- a row whose sides agree has no form
-no_form : (row : Row) → row.lo ≡ row.hi → form_of row ≡ noForm
+no_form : (row : Row) → row.lo ≡ row.hi → form_of row ≡ no_form
 unfolding form_of
-no_form row e = rw e (left leForm _ (and-not_self (is_finite row.hi)) ∙ left geForm noForm (and-not_self (is_finite row.hi)))
+no_form row e = rw e (left le_form _ (and-not_self (is_finite row.hi)) ∙ left ge_form no_form (and-not_self (is_finite row.hi)))
 
 abbrev HasForm : Form → Type 0
-HasForm leForm = Unit {0}
-HasForm geForm = Unit {0}
-HasForm noForm = ⊥
+HasForm le_form = Unit {0}
+HasForm ge_form = Unit {0}
+HasForm no_form = ⊥
 
 has_form : {f : Form} → Sided f → HasForm f
 has_form le = tt

@@ -6,7 +6,7 @@ use Rattle.tolerances.specs.Tol.{at}
 use Rattle.definition.specs.Model.{Model, is_int, Row, counts}
 use Rattle.definition.specs.Work.{Work, with_bounds, with_marks, with_row, with_counts, no_row, drop_row}
 use Rattle.definition.specs.Folds.{fold_fixed}
-use Rattle.definition.specs.Rewrites.{Form, leForm, geForm, form_of}
+use Rattle.definition.specs.Rewrites.{Form, le_form, ge_form, form_of}
 use Rattle.definition.specs.Tighten.{Rewriting, rewrite_loop}
 
 -- requeueing, and the counts that are only counted
@@ -28,8 +28,8 @@ pub record Bounding (M : Model) (P : Work → Type 0) : Type 0 where
 
 -- a form with one finite side
 pub data Sided : Form → Type 0 where
-  le : Sided leForm
-  ge : Sided geForm
+  le : Sided le_form
+  ge : Sided ge_form
 
 -- what row r becomes while it is at work: folded, or rewritten by the coefficient step
 pub data Changed (M : Model) (r : ℕ) (row : Row) : Row → Type 0 where

@@ -20,7 +20,7 @@ use Rattle.definition.specs.Sides.{unreachable, redundant}
 use Rattle.definition.specs.Forcing.{forces_min, forces_max, fix_all}
 use Rattle.definition.specs.Implied.{implied_bounds}
 use Rattle.definition.specs.Wave.{idle, several_terms, by_count, wave_row, wave_rows, wave, waves}
-use Rattle.definition.specs.Rewrites.{Form, leForm, geForm, noForm, form_of, vacuous_room}
+use Rattle.definition.specs.Rewrites.{Form, le_form, ge_form, no_form, form_of, vacuous_room}
 use Rattle.definition.specs.Tighten.{eligible, rewrite_loop, spared, tighten_form, tighten_by, tighten_row, tighten_from, tighten_binary_coeffs}
 use Rattle.definition.specs.Rounds.{dual_step, after_waves, rounds}
 use Rattle.definition.specs.Presolve.{finish, start, after_rounding, presolve}
@@ -107,9 +107,9 @@ module _ (M : Model) (act : Work → Row → Bool → Activity) (agrees : (w : W
 
   by_form : (f : Form) (r : ℕ) (row : Row) (w : Work) (changed : Bool) → Look M w row → with.tighten_by_with M act f r row w changed ≡ tighten_by M f r row w changed
   unfolding with.tighten_by_with tighten_by
-  by_form leForm r row w changed l = form leForm r row w changed l
-  by_form geForm r row w changed l = form geForm r row w changed l
-  by_form noForm r row w changed l = refl
+  by_form le_form r row w changed l = form le_form r row w changed l
+  by_form ge_form r row w changed l = form ge_form r row w changed l
+  by_form no_form r row w changed l = refl
 
   one_row : (r : ℕ) (w : Work) (changed : Bool) → Reaches M w → with.tighten_row_with M act r w changed ≡ tighten_row M r w changed
   unfolding with.tighten_row_with tighten_row

@@ -14,7 +14,7 @@ use Rattle.definition.specs.declared.Activity.{Activity}
 use Rattle.definition.specs.Model.{Model, from, upto, nnz, written, Binding, Row, with_touched, with_terms, with_range, with_binding, as_written}
 use Rattle.definition.specs.Work.{Work, no_term}
 use Rattle.definition.specs.Folds.{swap_remove, fold_term, fold_step, fold_loop, widen, relax_with, relax_binding, given_back, hold_rewrites, fold_fixed}
-use Rattle.definition.specs.Rewrites.{Form, leForm, geForm, noForm, form_of, Rewrite, keeps, coeff_only, coeff_bound, shrink_le, raise_le, vacuous_le, shrink_ge, lower_ge, vacuous_ge, vacuous}
+use Rattle.definition.specs.Rewrites.{Form, le_form, ge_form, no_form, form_of, Rewrite, keeps, coeff_only, coeff_bound, shrink_le, raise_le, vacuous_le, shrink_ge, lower_ge, vacuous_ge, vacuous}
 use Rattle.definition.specs.Tighten.{Rewriting as State, set_coeff, rewrite_of, rebound_row, row_after, rewrite_step, rewrite_loop}
 use Rattle.rows_kept.specs.Statements.{Spans}
 use Rattle.definition.specs.Choices.{both, taking, and_right}
@@ -147,9 +147,9 @@ module _ (M : Model) where
 
   vacuous_puts : (f : Form) (nz : Float) (row : Row) (act : Activity) (a : Float) → Puts (vacuous M f nz row act a)
   unfolding vacuous vacuous_le vacuous_ge
-  vacuous_puts leForm nz row act a = both Puts _ (both Puts _ (shrink_le_lem nz _ _ a) (raise_le_lem nz _ _ a)) puts_none
-  vacuous_puts geForm nz row act a = both Puts _ (both Puts _ (shrink_ge_lem nz _ _ a) (lower_ge_lem nz _ _ a)) puts_none
-  vacuous_puts noForm nz row act a = puts_none
+  vacuous_puts le_form nz row act a = both Puts _ (both Puts _ (shrink_le_lem nz _ _ a) (raise_le_lem nz _ _ a)) puts_none
+  vacuous_puts ge_form nz row act a = both Puts _ (both Puts _ (shrink_ge_lem nz _ _ a) (lower_ge_lem nz _ _ a)) puts_none
+  vacuous_puts no_form nz row act a = puts_none
 
   rewrite_puts : (f : Form) (nz : Float) (w : Work) (row : Row) (act : Activity) (t : Term) → Puts (rewrite_of M f nz w row act t)
   unfolding rewrite_of
@@ -159,9 +159,9 @@ module _ (M : Model) where
 module _ (M : Model) (r : ℕ) {G : Type 0} {Q : Row → Type 0} (K : Rewriting G Q) (back : (w : Work) → Q (given_back M r w)) (g : G) where
   rebound_kept : (f : Form) (w : Work) (row : Row) (i v : ℕ) (a na bp : Float) → Coefficient na → Q row → Q (rebound_row M f w row i v a na bp)
   unfolding rebound_row
-  rebound_kept leForm w row i v a na bp c q = K.rebinds g _ _ _ _ (K.coeffs g row i v na c q)
-  rebound_kept geForm w row i v a na bp c q = K.rebinds g _ _ _ _ (K.coeffs g row i v na c q)
-  rebound_kept noForm w row i v a na bp c q = q
+  rebound_kept le_form w row i v a na bp c q = K.rebinds g _ _ _ _ (K.coeffs g row i v na c q)
+  rebound_kept ge_form w row i v a na bp c q = K.rebinds g _ _ _ _ (K.coeffs g row i v na c q)
+  rebound_kept no_form w row i v a na bp c q = q
 
   after_kept : (f : Form) (w : Work) (row : Row) (i : ℕ) (t : Term) (x : Rewrite) → Puts x → Q row → Q (row_after M f w row i t x)
   unfolding row_after

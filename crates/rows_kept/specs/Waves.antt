@@ -18,7 +18,7 @@ use Rattle.definition.specs.Folds.{fold_fixed}
 use Rattle.definition.specs.Singles.{empty_row_check, singleton_drop, singleton_row}
 use Rattle.definition.specs.Forcing.{fix_all}
 use Rattle.definition.specs.Wave.{several_terms, by_count, wave_row, wave_rows, wave, waves}
-use Rattle.definition.specs.Rewrites.{Form, leForm, geForm, noForm, form_of, vacuous_room}
+use Rattle.definition.specs.Rewrites.{Form, le_form, ge_form, no_form, form_of, vacuous_room}
 use Rattle.definition.specs.Tighten.{Rewriting, queued, rewrite_step, rewrite_loop, tighten_form, tighten_by, tighten_row, tighten_from, tighten_binary_coeffs}
 use Rattle.definition.specs.Rounds.{dual_step, after_waves, rounds}
 use Rattle.definition.specs.Choices.{both, taking, true≢false, and_left}
@@ -141,9 +141,9 @@ module _ (M : Model) {P : Work → Type 0} (K : Marking P) (R : Rowing M P) wher
 
   by_kept : (f : Form) (r : ℕ) (row : Row) (w : Work) (changed : Bool) → get_or w.rows r no_row ≡ row → row.alive ≡ true → form_of row ≡ f → P w → P (tighten_by M f r row w changed).0
   unfolding tighten_by
-  by_kept leForm r row w changed g a e p = form_kept leForm r row w changed g a e le p
-  by_kept geForm r row w changed g a e p = form_kept geForm r row w changed g a e ge p
-  by_kept noForm r row w changed g a e p = p
+  by_kept le_form r row w changed g a e p = form_kept le_form r row w changed g a e le p
+  by_kept ge_form r row w changed g a e p = form_kept ge_form r row w changed g a e ge p
+  by_kept no_form r row w changed g a e p = p
 
   pub tighten_row_lem : (r : ℕ) (w : Work) (changed : Bool) → P w → P (tighten_row M r w changed).0
   unfolding tighten_row

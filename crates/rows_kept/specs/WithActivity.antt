@@ -15,7 +15,7 @@ use Rattle.definition.specs.Sides.{unreachable, redundant}
 use Rattle.definition.specs.Forcing.{forces_min, forces_max, fix_all}
 use Rattle.definition.specs.Implied.{implied_bounds}
 use Rattle.definition.specs.Wave.{idle}
-use Rattle.definition.specs.Rewrites.{Form, leForm, geForm, noForm, form_of, vacuous_room}
+use Rattle.definition.specs.Rewrites.{Form, le_form, ge_form, no_form, form_of, vacuous_room}
 use Rattle.definition.specs.Tighten.{eligible, rewrite_loop, spared}
 use Rattle.definition.specs.Rounds.{dual_step}
 use Rattle.definition.specs.Presolve.{finish}
@@ -73,9 +73,9 @@ module _ (M : Model) (act : Work → Row → Bool → Activity) where
       (with_row r s.row s.work, s.changed))
 
   unfoldable pub tighten_by_with : Form → ℕ → Row → Work → Bool → Work × Bool
-  tighten_by_with leForm r row w changed = tighten_form_with leForm r row w changed
-  tighten_by_with geForm r row w changed = tighten_form_with geForm r row w changed
-  tighten_by_with noForm r row w changed = (w, changed)
+  tighten_by_with le_form r row w changed = tighten_form_with le_form r row w changed
+  tighten_by_with ge_form r row w changed = tighten_form_with ge_form r row w changed
+  tighten_by_with no_form r row w changed = (w, changed)
 
   unfoldable pub tighten_row_with : ℕ → Work → Bool → Work × Bool
   tighten_row_with r w changed =

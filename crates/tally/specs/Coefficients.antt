@@ -9,7 +9,7 @@ use Rattle.definition.specs.declared.Activity.{Activity}
 use Rattle.definition.specs.Model.{Model, Row}
 use Rattle.definition.specs.Work.{Work, no_row}
 use Rattle.definition.specs.Activities.{activity}
-use Rattle.definition.specs.Rewrites.{Form, leForm, geForm, noForm, form_of, vacuous_room}
+use Rattle.definition.specs.Rewrites.{Form, le_form, ge_form, no_form, form_of, vacuous_room}
 use Rattle.definition.specs.Tighten.{Rewriting, queued, rewrite_step, rewrite_loop, tighten_form, tighten_by, tighten_row, tighten_from, tighten_binary_coeffs}
 use Rattle.definition.specs.Choices.{both, taking}
 use Rattle.rows_kept.specs.Kept.{Sided, le, ge, tightened}
@@ -47,9 +47,9 @@ module _ (M : Model) (A : AllShort M) {n k : ℕ} where
 
   by_all : {b : ℕ} (f : Form) (r : ℕ) (row : Row) (w : Work) (changed : Bool) → form_of row ≡ f → Short row → Tallied n k b w → Tallied n k (b + 65536) (tighten_by M f r row w changed).0
   unfolding tighten_by
-  by_all leForm r row w changed e s p = form_all leForm r row w changed e le s p
-  by_all geForm r row w changed e s p = form_all geForm r row w changed e ge s p
-  by_all noForm r row w changed e s p = more (omega arith) p
+  by_all le_form r row w changed e s p = form_all le_form r row w changed e le s p
+  by_all ge_form r row w changed e s p = form_all ge_form r row w changed e ge s p
+  by_all no_form r row w changed e s p = more (omega arith) p
 
   row_all : {b : ℕ} (r : ℕ) (w : Work) (changed : Bool) → Tallied n k b w → Tallied n k (b + 65536) (tighten_row M r w changed).0
   unfolding tighten_row

@@ -9,7 +9,7 @@ use Rattle.definition.specs.declared.Activity.{Activity}
 use Rattle.definition.specs.Model.{Model, Row, with_touched}
 use Rattle.definition.specs.Work.{Work}
 use Rattle.definition.specs.Folds.{gives_back, given_back, hold_rewrites}
-use Rattle.definition.specs.Rewrites.{Form, leForm, geForm, noForm, Rewrite, keeps, coeff_only, coeff_bound, rewrites}
+use Rattle.definition.specs.Rewrites.{Form, le_form, ge_form, no_form, Rewrite, keeps, coeff_only, coeff_bound, rewrites}
 use Rattle.definition.specs.Tighten.{Rewriting, set_coeff, queued, rebound_row, row_after, rewrite_step, rewrite_loop}
 use Rattle.space.specs.declared.Shape.{Shape}
 use Rattle.view.specs.Call.{Call}
@@ -27,9 +27,9 @@ use Rattle.tighten.specs.Queued.{inv_queued, inv_rewrote}
 -- ---- a row after a rewrite is as long
 rebound_length : (M : Model) (f : Form) (w : Work) (row : Row) (i v : ℕ) (a na bp : Float) → length (rebound_row M f w row i v a na bp).terms ≡ length row.terms
 unfolding rebound_row set_coeff
-rebound_length M leForm w row i v a na bp = length-set row.terms i _
-rebound_length M geForm w row i v a na bp = length-set row.terms i _
-rebound_length M noForm w row i v a na bp = refl
+rebound_length M le_form w row i v a na bp = length-set row.terms i _
+rebound_length M ge_form w row i v a na bp = length-set row.terms i _
+rebound_length M no_form w row i v a na bp = refl
 
 after_length : (M : Model) (f : Form) (w : Work) (row : Row) (i : ℕ) (t : Term) (x : Rewrite) → length (row_after M f w row i t x).terms ≡ length row.terms
 unfolding row_after set_coeff

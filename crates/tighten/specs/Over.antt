@@ -11,7 +11,7 @@ use Rattle.definition.specs.declared.Activity.{Activity}
 use Rattle.definition.specs.Model.{Model, Row, Binding, with_touched, with_range, with_binding, rewrote}
 use Rattle.definition.specs.Work.{Work, with_marks, with_row, with_counts, fixed, no_row, no_term}
 use Rattle.definition.specs.Folds.{fold_term, fold_step, fold_loop, gives_back, given_back}
-use Rattle.definition.specs.Rewrites.{Form, leForm, geForm, noForm, Rewrite, keeps, coeff_only, coeff_bound, rewrites, act_after}
+use Rattle.definition.specs.Rewrites.{Form, le_form, ge_form, no_form, Rewrite, keeps, coeff_only, coeff_bound, rewrites, act_after}
 use Rattle.definition.specs.Bindings.{rewrite_binding, growth}
 use Rattle.definition.specs.Tighten.{Rewriting, set_coeff, queued, binary, rewrite_of, rebound_row, row_after, rewrite_step, rewrite_loop}
 use Rattle.view.specs.Lists.{either}
@@ -33,11 +33,11 @@ module _ (r : ℕ) (z : Row) (w : Work) where
 
   rebound_over : (M : Model) (f : Form) (row : Row) (i v : ℕ) (a na bp : Float) → rebound_row M f (with_row r z w) row i v a na bp ≡ rebound_row M f w row i v a na bp
   unfolding rebound_row
-  rebound_over M leForm row i v a na bp =
+  rebound_over M le_form row i v a na bp =
       ap (λ (b : Binding). with_binding (some b) (with_range row.lo (bp ⊕ growth M row.hi row b) (set_coeff i v na row))) (binding_over M (set_coeff i v na row) v a row.hi bp)
-  rebound_over M geForm row i v a na bp =
+  rebound_over M ge_form row i v a na bp =
       ap (λ (b : Binding). with_binding (some b) (with_range (bp ⊖ growth M row.lo row b) row.hi (set_coeff i v na row))) (binding_over M (set_coeff i v na row) v a row.lo bp)
-  rebound_over M noForm row i v a na bp = refl
+  rebound_over M no_form row i v a na bp = refl
 
   pub after_over : (M : Model) (f : Form) (row : Row) (i : ℕ) (t : Term) (x : Rewrite) → row_after M f (with_row r z w) row i t x ≡ row_after M f w row i t x
   unfolding row_after

@@ -7,7 +7,7 @@ use Rattle.definition.specs.declared.Activity.{Activity}
 use Rattle.definition.specs.Model.{Model, Row}
 use Rattle.definition.specs.Work.{Work}
 use Rattle.definition.specs.Activities.{activity}
-use Rattle.definition.specs.Rewrites.{Form, leForm, geForm, noForm, form_of, vacuous_room}
+use Rattle.definition.specs.Rewrites.{Form, le_form, ge_form, no_form, form_of, vacuous_room}
 use Rattle.definition.specs.Tighten.{eligible, spared, tighten_form, tighten_by, tighten_row}
 use Rattle.definition.specs.Choices.{and_left}
 use Rattle.formulas.specs.declared.Limits.{Limits}
@@ -88,15 +88,15 @@ module _ {ds ss is : List ℕ} {cs : List Float} {os : List ℕ} {bs : List Floa
   form_rewrites e = bool_same (form_at form r changed) (loop_at form nz r (begun act changed)) (λ M o k w m c h i. tests M o k w m c h i ∙ no _ _ e)
 
 -- ---- tighten_alive: by the row's form
-by_le : (M : Model) (r : ℕ) (row : Row) (w : Work) (changed : Bool) → tighten_by M leForm r row w changed ≡ tighten_form M leForm r row w changed
+by_le : (M : Model) (r : ℕ) (row : Row) (w : Work) (changed : Bool) → tighten_by M le_form r row w changed ≡ tighten_form M le_form r row w changed
 unfolding tighten_by
 by_le M r row w changed = refl
 
-by_ge : (M : Model) (r : ℕ) (row : Row) (w : Work) (changed : Bool) → tighten_by M geForm r row w changed ≡ tighten_form M geForm r row w changed
+by_ge : (M : Model) (r : ℕ) (row : Row) (w : Work) (changed : Bool) → tighten_by M ge_form r row w changed ≡ tighten_form M ge_form r row w changed
 unfolding tighten_by
 by_ge M r row w changed = refl
 
-by_none : (M : Model) (r : ℕ) (row : Row) (w : Work) (changed : Bool) → tighten_by M noForm r row w changed ≡ (w, changed)
+by_none : (M : Model) (r : ℕ) (row : Row) (w : Work) (changed : Bool) → tighten_by M no_form r row w changed ≡ (w, changed)
 unfolding tighten_by
 by_none M r row w changed = refl
 
@@ -124,19 +124,19 @@ module _ {P : Model → Type 0} {s : Shape} {f : Floats} {n n₁ : Numbers} (r :
       }
 
   module _ (changed : Bool) (a : Alive n r) {lim : Limits} (L : ReadsLimits s f r lim) {form : Form} (ef : form ≡ form_of (bare lim)) where
-    pub alive_le : {f' : Floats} {n' : Numbers} {z : Bool} → form ≡ leForm → ActsBool P s f n₁ f' n' z (form_at form r changed) → ActsBool P s f n f' n' z (alive_at r changed)
+    pub alive_le : {f' : Floats} {n' : Numbers} {z : Bool} → form ≡ le_form → ActsBool P s f n₁ f' n' z (form_at form r changed) → ActsBool P s f n f' n' z (alive_at r changed)
     alive_le e t =
         bool_same (alive_at r changed) (λ M w. form_at form r changed M (looked r w))
         (λ M o k w p c h i. ap (λ (y : Form). tighten_by M y r (row_of w r) (looked r w) changed) (form_here a L ef c h ∙ e)
         ∙ by_le M r (row_of w r) (looked r w) changed ∙ ap (λ (y : Form). tighten_form M y r (row_of w r) (looked r w) changed) (sym e)) (then_looked t)
 
-    pub alive_ge : {f' : Floats} {n' : Numbers} {z : Bool} → form ≡ geForm → ActsBool P s f n₁ f' n' z (form_at form r changed) → ActsBool P s f n f' n' z (alive_at r changed)
+    pub alive_ge : {f' : Floats} {n' : Numbers} {z : Bool} → form ≡ ge_form → ActsBool P s f n₁ f' n' z (form_at form r changed) → ActsBool P s f n f' n' z (alive_at r changed)
     alive_ge e t =
         bool_same (alive_at r changed) (λ M w. form_at form r changed M (looked r w))
         (λ M o k w p c h i. ap (λ (y : Form). tighten_by M y r (row_of w r) (looked r w) changed) (form_here a L ef c h ∙ e)
         ∙ by_ge M r (row_of w r) (looked r w) changed ∙ ap (λ (y : Form). tighten_form M y r (row_of w r) (looked r w) changed) (sym e)) (then_looked t)
 
-    pub alive_none : form ≡ noForm → ActsBool P s f n f n₁ changed (alive_at r changed)
+    pub alive_none : form ≡ no_form → ActsBool P s f n f n₁ changed (alive_at r changed)
     alive_none e =
         bool_same (alive_at r changed) (λ M w. (looked r w, changed))
         (λ M o k w p c h i. ap (λ (y : Form). tighten_by M y r (row_of w r) (looked r w) changed) (form_here a L ef c h ∙ e) ∙ by_none M r (row_of w r) (looked r w) changed) (then_looked bool_none)
@@ -195,9 +195,9 @@ module _ {M : Model} {s : Shape} {k : ℕ} (c : Call M s) (r : ℕ) (p : r < len
 
   inv_by : (form : Form) (w : Work) (changed : Bool) → Inv M k w → (row_of w r).alive ≡ true → Inv M k (tighten_by M form r (row_of w r) w changed).0
   unfolding tighten_by
-  inv_by leForm w changed i a = inv_form leForm w changed i a
-  inv_by geForm w changed i a = inv_form geForm w changed i a
-  inv_by noForm w changed i a = i
+  inv_by le_form w changed i a = inv_form le_form w changed i a
+  inv_by ge_form w changed i a = inv_form ge_form w changed i a
+  inv_by no_form w changed i a = i
 
   pub inv_tighten_row : (w : Work) (changed : Bool) → Inv M k w → Inv M k (tighten_row M r w changed).0
   unfolding tighten_row

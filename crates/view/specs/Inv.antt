@@ -33,7 +33,7 @@ has_nonzero v (t ∷ ts) = (eqb t.var v && not (eq t.coeff 0f)) || has_nonzero v
 
 -- no binary is rewritten twice, and every rewritten binary is a term of the row or folded out of it
 pub data BinariesIn (M : Model) (r : ℕ) (row : Row) : List ℕ → Type 0 where
-  binariesIn[] : BinariesIn M r row []
+  binaries_in[] : BinariesIn M r row []
   binaries_in∷ : {v : ℕ} {vs : List ℕ} → has v vs ≡ false → has_nonzero v (row.terms ++ row.folded) ≡ true → BinariesIn M r row vs → BinariesIn M r row (v ∷ vs)
 
 pub data BindingIn (M : Model) (r : ℕ) (row : Row) : Option Binding → Type 0 where

@@ -25,7 +25,8 @@ overflow_sub-e c = omega (
 )
 
 pub fixed_term-sum-requires : goal.fixed_term-sum-requires
-fixed_term-sum-requires c = record { k_bound = (
+fixed_term-sum-requires c = record {
+  k_bound = (
     omega (arith, binaries_in c.requires.r_lt_rows.0 c.requires.standing, c.get_binaries-k.ensures),
     omega (
       arith,
@@ -36,7 +37,9 @@ fixed_term-sum-requires c = record { k_bound = (
     ),
     search rules,
     search rules,
-  ); i_bound = folded_in c.requires.r_lt_rows.0 c.requires.standing _ (omega arith) refl }
+  );
+  i_bound = folded_in c.requires.r_lt_rows.0 c.requires.standing _ (omega arith) refl;
+}
 
 pub loop-j-preserved : goal.loop-j-preserved
 loop-j-preserved c = (omega arith, summed_more _ _ _ c.loop-j.invariant.1 (omega arith) refl refl c.fixed_term-sum.ensures)
