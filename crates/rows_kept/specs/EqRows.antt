@@ -30,9 +30,9 @@ abbrev NotEq : Model → ℕ → Type 0
 NotEq M r = op_of M r ≡ 0 → ⊥
 
 -- a row whose sides agree has no form
-no_form : (row : Row) → row.lo ≡ row.hi → form_of row ≡ no_form
+no_form_lem : (row : Row) → row.lo ≡ row.hi → form_of row ≡ no_form
 unfolding form_of
-no_form row e = rw e (left le_form _ (and-not_self (is_finite row.hi)) ∙ left ge_form no_form (and-not_self (is_finite row.hi)))
+no_form_lem row e = rw e (left le_form _ (and-not_self (is_finite row.hi)) ∙ left ge_form no_form (and-not_self (is_finite row.hi)))
 
 abbrev HasForm : Form → Type 0
 HasForm le_form = Unit {0}
@@ -61,7 +61,7 @@ steps M r =
             relaxes = λ row b c l h e q z. absurd (bound_not e (q z).unbound);
           };
       rewriting = record { coeffs = λ g row i v a c q z. absurd (g z); rebinds = λ g row b l h q z. absurd (g z); touches = λ g row q z. absurd (g z) };
-      guards = λ row f e s q z. subst HasForm (sym e ∙ no_form row (q z).sides) (has_form s);
+      guards = λ row f e s q z. subst HasForm (sym e ∙ no_form_lem row (q z).sides) (has_form s);
     }
 
 eq_rows : (M : Model) → EachRow M (NotEq M) (IfEq M)
