@@ -256,10 +256,6 @@ unfoldable pub answers : List Case → List Verdict
 answers [] = []
 answers (d ∷ ds) = (none, d.answer) ∷ answers ds
 
-pub twelve_cases : presolved cases ≡ answers cases
-unfolding cases presolved answers writing everything judging
-twelve_cases = refl
-
 -- the theorem for one case of the table: its model is accepted, and has its answer
 abbrev pub Right : Case → Type 0
 Right c = (refusal c.model (shortest c.model) ≡ none) × (presolve c.model ≡ c.answer)
@@ -271,9 +267,3 @@ each (d ∷ ds) e c m =
     let h : ◌≡◌ {A = Verdict} (refusal d.model (shortest d.model), presolve d.model) (none, d.answer) = cc in
     let t : presolved ds ≡ answers ds = cc in
     ⊎_elim (λ q. subst Right (sym q) (ap (λ (z : Verdict). z.0) h, ap (λ (z : Verdict). z.1) h)) (λ i. each ds t c i) (Memᴰ.cases_cons m)
-
-pub case_accepted : {c : Case} → Memᴰ c cases → refusal c.model (shortest c.model) ≡ none
-case_accepted {c} m = (each cases twelve_cases c m).0
-
-pub case_answered : {c : Case} → Memᴰ c cases → presolve c.model ≡ c.answer
-case_answered {c} m = (each cases twelve_cases c m).1

@@ -6,7 +6,8 @@ use Rattle.std.proofs.Math.Option.{Option, none}
 use Rattle.definition.specs.Model as definition
 use Rattle.definition.specs.Presolve.{presolve}
 use Rattle.definition.specs.Refusal.{too_short, shortest}
-use Rattle.definition.specs.Cases.{Case, cases, case_accepted, case_answered}
+use Rattle.definition.specs.Cases.{Case, cases}
+use Rattle.definition.proofs.Cases.{case_accepted, case_answered}
 use Rattle.definition.specs.Edges.{longer_accepted}
 use Rattle.output.specs.Results.{Results}
 use Rattle.presolve.specs.declared.Answer.{Answer}

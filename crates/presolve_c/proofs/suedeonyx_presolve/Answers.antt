@@ -52,7 +52,5 @@ pub shape_of-answer : goal.shape_of-answer
 shape_of-answer c = c.answer-1.given
 
 pub returns : goal.returns
-returns c = let after-tell = c.before.before in let after-presolve =
-    after-tell.before.before.before.before.before.before.before.before.before.before.before.before.before.before.before.before.before.before.before.before.before.before.before.before.before.before.before.before in
-    promise_told after-presolve.before.before.before.before.before.before.before.before.before.before.before.before.before.before.if1.left
-    after-presolve.presolve.ensures c.tell.ensures
+returns c = promise_told c.if-answer-lt-ANSWER.false
+    c.presolve-a.ensures c.tell.ensures

@@ -15,7 +15,6 @@ print_call-requires c = called_fronts
     c.presolve-answer.ensures
 
 pub returns : goal.returns
-returns c = let after-print-call = c.before.before in let after-presolve =
-    after-print-call.before.before.before.before.before.before.before.before.before.before.before.before.before.before.before.before.before.before.before.before.before.before.before.before.before in c.print_call.ensures ∙ ap
+returns c = c.print_call.ensures ∙ ap
     (λ (t : List ℕ). printed t
-    after-presolve.before.before.before.before.before.before.before.before.before.before.before.before.before.before.before.before.before.before.before.before.before.before.before.before.args.text.now) (called_text after-presolve.presolve.ensures refl)
+    c.args.text.now) (called_text c.presolve-answer.ensures refl)

@@ -13,7 +13,7 @@ pub loop-r-init : goal.loop-r-init
 loop-r-init c = (refl, refl, search (read_start, rows_long))
 
 pub read_row-z-requires : goal.read_row-z-requires
-read_row-z-requires c = ((omega arith, turn_room c.requires.given c.loop-r.invariant.2, omega arith, omega arith), search rules)
+read_row-z-requires c = record { r_lt_rows = (omega arith, turn_room c.requires.given c.loop-r.invariant.2, omega arith, omega arith); given = search rules }
 
 pub returns-in-Stop : goal.returns-in-Stop
 returns-in-Stop c = search (read_stop, rules)

@@ -12,7 +12,11 @@ pub loop-r-init : goal.loop-r-init
 loop-r-init c = search (before_start, fill_start)
 
 pub emit_span-n-requires : goal.emit_span-n-requires
-emit_span-n-requires c = ((omega arith, search rules, search rules, search (fill_room, rules), search (fill_room, rules)), search rules)
+emit_span-n-requires c = record {
+  r_lt_rows = (omega arith, search rules, search rules, search (fill_room, rules), search (fill_room, rules));
+  before_value = search rules;
+  with_value = search rules;
+}
 
 pub loop-r-preserved : goal.loop-r-preserved
 loop-r-preserved c = search (before_turn, fill_turn, rules)

@@ -23,15 +23,7 @@ pub shape_of-w : goal.shape_of-w
 shape_of-w c = c.judge_rows.auto.w
 
 pub shape_of-m : goal.shape_of-m
-shape_of-m c = let after-write-lists =
-    c.before.before.before.before.before.before.before.before.before.before.before.before.before.before.before.before.before.before.before.before.before.before in
-    let after-judge-rows =
-    after-write-lists.before.before.before.before.before.before.before.before.before.before.before.before.before.before.before.before.before in
-    after-write-lists.write-lists.kept.1.1.1.1.1.1.0 ∙ after-judge-rows.judge-rows.kept.1.1.1.1.1.1.0
+shape_of-m c = c.write_lists.auto.m ∙ c.judge_rows.auto.m
 
 pub returns : goal.returns
-returns c = let after-write-lists =
-    c.before.before.before.before.before.before.before.before.before.before.before.before.before.before.before.before.before.before.before.before.before.before in
-    let after-judge-rows =
-    after-write-lists.before.before.before.before.before.before.before.before.before.before.before.before.before.before.before.before.before in
-    writes-out after-judge-rows.judge-rows.ensures after-write-lists.write-lists.ensures
+returns c = writes-out c.judge_rows.ensures c.write_lists.ensures

@@ -19,17 +19,13 @@ pub force_row-requires : goal.force_row-requires
 force_row-requires c = record { r_lt_rows = c.requires.r_lt_rows; ready = ready_under moves_marks c.requires.ready }
 
 pub force_row-requires-in-ForceMax : goal.force_row-requires-in-ForceMax
-force_row-requires-in-ForceMax c = let start =
-    c.before.before.before.before.before.before.before.before.before.before.before.before.before.before.before.before.before.before.before.before in (start.pre.0, ready_under moves_marks start.pre.1)
+force_row-requires-in-ForceMax c = (c.requires.r_lt_rows, ready_under moves_marks c.requires.ready)
 
 pub drop_row-requires : goal.drop_row-requires
-drop_row-requires c = let start =
-    c.before.before.before.before.before.before.before.before.before.before.before.before.before.before.before.before.before.before.before in
-    (start.pre.0.0, start.pre.0.2)
+drop_row-requires c = (c.requires.r_lt_rows.0, c.requires.r_lt_rows.2)
 
 pub implied_bounds-requires : goal.implied_bounds-requires
-implied_bounds-requires c = let start =
-    c.before.before.before.before.before.before.before.before.before.before.before.before.before.before.before.before.before.before.before.before in (start.pre.0, start.pre.1)
+implied_bounds-requires c = record { r_lt_rows = c.requires.r_lt_rows; ready = c.requires.ready }
 
 pub returns-in-ForceMin : goal.returns-in-ForceMin
 returns-in-ForceMin c = several_min _ c.requires.r_lt_rows.3 c.working_activity-act.ensures c.limits-x.ensures

@@ -18,8 +18,7 @@ returns-then-spared c = form_spared _ _ _ c.requires.r_lt_rows.0 c.requires.r_lt
     c.get_len-len.ensures c.spared.ensures c.if-spared.true
 
 pub rewrite_loop-requires : goal.rewrite_loop-requires
-rewrite_loop-requires c = let start =
-    c.before.before.before.before.before.before.before.before.before.before.before.before.before.before.before.before.before.before.before.before.before.before.before in ((start.pre.0.0, start.pre.0.1, start.pre.0.2, start.pre.0.3, refl), start.pre.1)
+rewrite_loop-requires c = record { r_lt_rows = (c.requires.r_lt_rows.0, c.requires.r_lt_rows.1, c.requires.r_lt_rows.2, c.requires.r_lt_rows.3, refl); ready = c.requires.ready }
 
 pub returns : goal.returns
 returns c = form_rewrites _ _ _ c.requires.r_lt_rows.0 c.requires.r_lt_rows.3 c.activity-act.ensures c.limits-l.ensures

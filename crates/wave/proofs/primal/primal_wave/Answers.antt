@@ -24,9 +24,7 @@ wave_rows-requires c = record {
 }
 
 pub returns : goal.returns
-returns c = let start =
-    c.before.before.before.before.before.before.before.before.before.before.before.before.before.before.before.before.before.before.before.before.before.before.before.before.before.before.before.before.before.before.before.before in
-    wave_tries (queued_length _ _ start.pre.0.1) (passes_length _ _ start.pre.0.1)
+returns c = wave_tries (queued_length _ _ c.requires.holds_f.1) (passes_length _ _ c.requires.holds_f.1)
     c.get_queued-n.ensures
     c.copy_queue.ensures
     c.put_queued.ensures

@@ -1,0 +1,2 @@
+-- What is proved of the definition by computing it.
+pub mod Cases
