@@ -12,7 +12,6 @@ use Rattle.definition.specs.Forcing.{forces_min, forces_max}
 use Rattle.definition.specs.Wave.{several_terms}
 use Rattle.definition.specs.Tests.{taking}
 use Rattle.best_kept.specs.PointSet.{PointSet}
-
 use Rattle.points_kept.specs.Terms.{All, NonZero}
 use Rattle.best_kept.specs.Invariant.{GoodW, Each, stopped, went}
 use Rattle.best_kept.specs.Changes.{From, drop_ok}

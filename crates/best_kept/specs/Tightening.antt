@@ -13,7 +13,6 @@ use Rattle.definition.specs.Model.{Model, is_int, tightened}
 use Rattle.definition.specs.Work.{Work, with_bounds, with_counts, Step}
 use Rattle.definition.specs.Bounds.{tighten_upper, tighten_lower, upper_int, lower_int, mark_tightened}
 use Rattle.best_kept.specs.PointSet.{PointSet}
-
 use Rattle.definition.specs.Tests.{taking, if_true}
 use Rattle.points_kept.specs.WholeFloats.{held, of_le, of_lt, self, half_nonneg}
 use Rattle.best_kept.specs.Invariant.{Each, stopped, went}

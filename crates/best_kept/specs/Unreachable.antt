@@ -11,7 +11,6 @@ use Rattle.definition.specs.Work.{Work}
 use Rattle.definition.specs.Sides.{hi_side, lo_side, unreachable, above_hi, below_lo}
 use Rattle.definition.specs.Tests.{and, or}
 use Rattle.best_kept.specs.PointSet.{PointSet}
-
 use Rattle.points_kept.specs.WholeFloats.{apart}
 use Rattle.best_kept.specs.Invariant.{NoPoint}
 use Rattle.best_kept.specs.Activity.{ActivityOf, L, H, above_low, below_high}

@@ -1,6 +1,5 @@
 // A model file's bytes to the line that says whether its model is 01's farm model, for which the
-// promise about points is made, with a whole objective, which the one about the least objective asks
-// beside it. specs/Whole says what that line is.
+// promise about points is made. specs/Whole says what that line is.
 #![tactic(auto)]
 
 ghost use Rattle.std.specs.Prelude.{◌≡◌, length, take};
@@ -9,7 +8,7 @@ ghost use Rattle.print_result.specs.Printing.{printed, outcome};
 ghost use Rattle.presolve_file.specs.Front.{Held, front_model};
 ghost use Rattle.presolve_file.specs.Fitting.{Part, fitting};
 ghost use Rattle.emit.specs.Filling.{over};
-ghost use Rattle.whole_numbers.specs.Fault.{told};
+ghost use Rattle.whole_numbers.specs.Fault.{fault};
 ghost use Rattle.whole_numbers.specs.Of.{numbers_of};
 ghost use Rattle.numbers_file.specs.Whole.{fault_line, numbers_text};
 
@@ -19,7 +18,6 @@ use whole_numbers::Numbers;
 
 // Prints what the test says of a model.
 fn print_model(
-    obj: &[f64],
     lower: &[f64],
     upper: &[f64],
     domain: &[u8],
@@ -32,11 +30,11 @@ fn print_model(
     int_tol: f64,
     text: &mut [u8],
 ) -> Printed
-    ensures { outcome result text.new ≡ printed (fault_line (told (numbers_of obj.now lower.now upper.now
-        domain.now starts.now index.now coeff.now rhs.now mode feas int_tol))) text.old }
+    ensures { outcome result text.new ≡ printed (fault_line (fault (numbers_of lower.now upper.now domain.now
+        starts.now index.now coeff.now rhs.now mode feas int_tol))) text.old }
 {
     match whole_numbers::whole_numbers(
-        obj, lower, upper, domain, starts, index, coeff, rhs, mode, feas, int_tol,
+        lower, upper, domain, starts, index, coeff, rhs, mode, feas, int_tol,
     ) {
         Numbers::Whole => print_result::print_numbers(0, 0, text),
         Numbers::Off(f) => print_result::print_numbers(f.number as usize, f.place, text),
@@ -58,7 +56,7 @@ fn print_front(
     text: &mut [u8],
 ) -> Printed
     requires { Held h (slices obj.now lower.now upper.now domain.now starts.now index.now coeff.now cmp.now rhs.now) }
-    ensures { outcome result text.new ≡ printed (fault_line (told (front_model h (slices obj.now lower.now upper.now
+    ensures { outcome result text.new ≡ printed (fault_line (fault (front_model h (slices obj.now lower.now upper.now
         domain.now starts.now index.now coeff.now cmp.now rhs.now)))) text.old }
 {
     let vars = h.vars;
@@ -66,7 +64,6 @@ fn print_front(
     let ends = rows + 1;
     let terms = h.terms;
     print_model(
-        &obj[..vars],
         &lower[..vars],
         &upper[..vars],
         &domain[..vars],

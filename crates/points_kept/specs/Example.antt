@@ -15,7 +15,7 @@ use Rattle.definition.specs.Presolve.{presolve}
 use Rattle.definition.specs.Refusal.{shortest, refusal, judging}
 use Rattle.points_kept.specs.Statements.{PureInteger, Point, Exact}
 use Rattle.definition.specs.Accepted.{accepted_shaped}
-use Rattle.points_kept.specs.Theorem.{points_kept}
+use Rattle.points_kept.specs.Theorem.{points_kept, no_point}
 use Rattle.definition.specs.Cases.{Case, cases, writing, everything}
 
 abbrev number : ℕ → Float
@@ -107,4 +107,4 @@ equal_infeasible = refl
 
 pub equal_no_point : (x : ℕ → ℤ) → Point equal x → ⊥
 unfolding twice
-equal_no_point = subst (Exact equal) equal_infeasible (points_kept equal (twice_pure 0 accepted.1) refl refl) refl
+equal_no_point = no_point equal (twice_pure 0 accepted.1) refl refl (counts 0 0 0 0 1) equal_infeasible refl

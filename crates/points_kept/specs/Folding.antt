@@ -18,7 +18,7 @@ use Rattle.tolerances.specs.Laws.{laws}
 use Rattle.definition.specs.Model.{Model, rhs_of, written, Row, Binding, with_terms}
 use Rattle.definition.specs.Work.{Work, no_term, fixed}
 use Rattle.definition.specs.Folds.{swap_remove, fold_term, fold_step, fold_loop, bound?, gives_back, relax_with, relax_binding, given_back, hold_rewrites, fold_fixed}
-use Rattle.points_kept.specs.Statements.{PointSet, dot}
+use Rattle.points_kept.specs.Statements.{dot}
 use Rattle.points_kept.specs.Integers.{eq_parts, size_add, size_sub}
 use Rattle.definition.specs.Choices.{both}
 use Rattle.definition.specs.Tests.{differ, last_or, test, taking}
@@ -148,7 +148,7 @@ sr_dot x ts i h =
       add_parts (dot x (take n l)) (tv x (get_or ts i no_term)),
     ))
 
-module _ (M : Model) {Sought : PointSet} (w : Work) (g : GoodW M Sought w) (r : ℕ) where
+module _ (M : Model) (w : Work) (g : GoodW M w) (r : ℕ) where
   -- a zero coefficient leaves
   zero_ok : (row : Row) (i : ℕ) → i < length row.terms → RowOk M w.elo w.ehi r row → T (eq (get_or row.terms i no_term).coeff 0f)
       → RowOk M w.elo w.ehi r (with_terms (swap_remove row.terms i) row)

@@ -18,7 +18,7 @@ use Rattle.definition.specs.Work.{Work, with_bounds, with_counts, drop_row}
 use Rattle.definition.specs.Bounds.{fix}
 use Rattle.definition.specs.Sides.{hi_side, lo_side, near_min, near_max}
 use Rattle.definition.specs.Forcing.{corner, forcing_at, forces_min, forces_max, fix_all}
-use Rattle.points_kept.specs.Statements.{PointSet, dot, Within}
+use Rattle.points_kept.specs.Statements.{dot, Within, Point}
 use Rattle.points_kept.specs.Integers.{eq_parts, mul_cancel, mul_cancel_neg}
 use Rattle.definition.specs.Choices.{both}
 use Rattle.definition.specs.Tests.{and3, and, test, taking, picked, unpicked}
@@ -43,13 +43,13 @@ unfolding dot corner_sum
 dot_corner mc w0 y [] c = refl
 dot_corner mc w0 y (t ∷ ts) c = ap₂ (λ (p q : ℤ). p +ℤ q) (ap (λ (z : ℤ). int t.coeff *ℤ z) c.0) (dot_corner mc w0 y ts c.1)
 
-module _ (M : Model) {Sought : PointSet} (w0 : Work) (g0 : GoodW M Sought w0) where
+module _ (M : Model) (w0 : Work) (g0 : GoodW M w0) where
   -- the variable of t has the bounds that it had in w0
   abbrev Kept : Work → Term → Type 0
   Kept w t = (int (at w.elo t.var) ≡ L M w0 t.var) × (int (at w.ehi t.var) ≡ H M w0 t.var)
 
   record FixedAt (w : Work) (v : ℕ) (c : Float) (x : Work) : Type 0 where
-    from : From M Sought w0 x
+    from : From M w0 x
     nars : Nars M w x
     elo : x.elo ≡ set w.elo v c
     ehi : x.ehi ≡ set w.ehi v c
@@ -61,7 +61,7 @@ module _ (M : Model) {Sought : PointSet} (w0 : Work) (g0 : GoodW M Sought w0) wh
       both (λ (c : Float). Bounded (2 ^ 20) c × (L M w0 t.var ⊑ int c) × (int c ⊑ H M w0 t.var)) _ (o.hi, o.order, omega arith) (o.lo, omega arith, o.order)
 
   -- ---- `fix` at a corner where all points are
-  fix_one : (mc : Bool) (t : Term) (w : Work) → TermOk (length M.lower) t → Kept w t → From M Sought w0 w → ((x : ℕ → ℤ) → Sought x → AtCorner mc w0 x t)
+  fix_one : (mc : Bool) (t : Term) (w : Work) → TermOk (length M.lower) t → Kept w t → From M w0 w → ((x : ℕ → ℤ) → Point M x → AtCorner mc w0 x t)
       → FixedAt w t.var (corner mc w0 t) (fix M t.var (corner mc w0 t) w)
   unfolding fix
   fix_one mc t w c k f pts =
@@ -80,11 +80,11 @@ module _ (M : Model) {Sought : PointSet} (w0 : Work) (g0 : GoodW M Sought w0) wh
       (record { from = record { good = s.0; nars = λ j h. wider M (f.nars j h) (s.1 j h); rows = f.rows }; nars = s.1; elo = refl; ehi = refl })
 
   record AllFixed (mc : Bool) (w : Work) (ts : List Term) (x : Work) : Type 0 where
-    from : From M Sought w0 x
+    from : From M w0 x
     nars : Nars M w x
     at_corner : (y : ℕ → ℤ) → Within (length M.lower) x.elo x.ehi y → All (AtCorner mc w0 y) ts
 
-  fix_all_lem : (mc : Bool) (ts : List Term) (w : Work) → All (TermOk (length M.lower)) ts → Distinct ts → All (Kept w) ts → From M Sought w0 w → ((x : ℕ → ℤ) → Sought x → All (AtCorner mc w0 x) ts)
+  fix_all_lem : (mc : Bool) (ts : List Term) (w : Work) → All (TermOk (length M.lower)) ts → Distinct ts → All (Kept w) ts → From M w0 w → ((x : ℕ → ℤ) → Point M x → All (AtCorner mc w0 x) ts)
       → AllFixed mc w ts (fix_all M mc w0 ts w)
   unfolding fix_all
   fix_all_lem mc [] w a d k f pts = record { from = f; nars = λ v h. record { lo = omega arith; hi = omega arith }; at_corner = λ y h. tt }
@@ -163,8 +163,7 @@ module _ (M : Model) {Sought : PointSet} (w0 : Work) (g0 : GoodW M Sought w0) wh
   high_corner [] a n = refl
   high_corner (t ∷ ts) a n = ap₂ (λ (p q : ℤ). p +ℤ q) (ap (λ (z : ℤ). int t.coeff *ℤ z) (highest_corner t a.0 n.0)) (high_corner ts a.1 n.1)
 
-module _ {M : Model} {Sought : PointSet} {w0 : Work} {r : ℕ} {row : Row} (σ : AtWork M Sought w0 r row) (nz : All NonZero row.terms) {e : Activity}
-    (a : ActivityOf (L M w0) (H M w0) row.terms e) where
+module _ {M : Model} {w0 : Work} {r : ℕ} {row : Row} (σ : AtWork M w0 r row) (nz : All NonZero row.terms) {e : Activity} (a : ActivityOf (L M w0) (H M w0) row.terms e) where
   abbrev TS : List Term
   TS = row.terms
 
@@ -186,9 +185,9 @@ module _ {M : Model} {Sought : PointSet} {w0 : Work} {r : ℕ} {row : Row} (σ :
       (omega (arith, eq_parts p.is), omega (arith, eq_parts p.is, eq_parts n.is, P_neg (int s), N_neg (int s)))
 
   -- ---- a row that is its side at a corner, where all points are
-  forced_ok : (mc : Bool) → σ.ok.b ≡ corner_sum mc w0 TS → ((x : ℕ → ℤ) → Sought x → All (AtCorner mc w0 x) TS) → GoodW M Sought (drop_row r row (fix_all M mc w0 TS w0))
+  forced_ok : (mc : Bool) → σ.ok.b ≡ corner_sum mc w0 TS → ((x : ℕ → ℤ) → Point M x → All (AtCorner mc w0 x) TS) → GoodW M (drop_row r row (fix_all M mc w0 TS w0))
   forced_ok mc same pts =
-      let start : From M Sought w0 w0 = record { good = σ.good; nars = λ v h. record { lo = omega arith; hi = omega arith }; rows = refl } in
+      let start : From M w0 w0 = record { good = σ.good; nars = λ v h. record { lo = omega arith; hi = omega arith }; rows = refl } in
       let all = fix_all_lem M w0 σ.good mc TS w0 σ.ok.terms σ.ok.distinct (kept_now M w0 σ.good TS) start pts in
       drop_ok M r row (fix_all M mc w0 TS w0) σ.range all.from.good (λ x k.
       let k0 : Within (length M.lower) w0.elo w0.ehi x = λ j l. (omega (arith, (k j l).0, (all.nars j l).lo), omega (arith, (k j l).1, (all.nars j l).hi)) in
@@ -196,7 +195,7 @@ module _ {M : Model} {Sought : PointSet} {w0 : Work} {r : ℕ} {row : Row} (σ :
       met_in σ x k0 (record { below = λ _. omega (arith, eq_parts q); above = λ _. omega (arith, eq_parts q) }))
 
   -- FORCING keeps the invariant, at either corner
-  pub forces_min_ok : (wact : Activity) → T (forces_min M r row wact e w0) → GoodW M Sought (drop_row r row (fix_all M true w0 TS w0))
+  pub forces_min_ok : (wact : Activity) → T (forces_min M r row wact e w0) → GoodW M (drop_row r row (fix_all M true w0 TS w0))
   unfolding forces_min near_min
   forces_min_ok wact t =
       let c = and3 (near_min M r row wact) _ _ t in
@@ -215,7 +214,7 @@ module _ {M : Model} {Sought : PointSet} {w0 : Work} {r : ℕ} {row : Row} (σ :
       let dn : least₀ ⊑ U = above_least M w0 x u (σ.good.keeps x p) f.0.0 in
       equal M w0 σ.good u f.0.0 f.0.1 (x u.var) (lowest (L M w0) (H M w0) u) up dn ∙ lowest_corner M w0 σ.good u f.0.0 f.0.1) known)
 
-  pub forces_max_ok : (wact : Activity) → T (forces_max M r row wact e w0) → GoodW M Sought (drop_row r row (fix_all M false w0 TS w0))
+  pub forces_max_ok : (wact : Activity) → T (forces_max M r row wact e w0) → GoodW M (drop_row r row (fix_all M false w0 TS w0))
   unfolding forces_max near_max
   forces_max_ok wact t =
       let c = and3 (near_max M r row wact) _ _ t in

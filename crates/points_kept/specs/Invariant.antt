@@ -1,5 +1,5 @@
--- THE INVARIANT of the work on a model of whole numbers: bounds are whole and in order, none of the points sought is lost, each row at work says what the written
--- row says, and each dropped one is met within the bounds.
+-- THE INVARIANT of the work on a model of whole numbers: bounds are whole and in order, no point is lost, each row at work says what the written row says, and
+-- each dropped one is met within the bounds.
 use Rattle.std.specs.Prelude.{ℕ, ◌+◌, ◌*◌, ◌^◌, ◌≤◌, ◌<◌, zero, suc, refl, ◌≡◌, Bool, false, not, ◌&&◌, List, eqb, ltb, ℤ, pos, ◌+ℤ◌, get_or, set, Float}
 use Rattle.std.proofs.Common.{arith, ap, sym, ◌∙◌, nltb→le, eqb→eq, length-set, get_or-set_same, get_or-set_other}
 use Rattle.std.proofs.Math.Path.{subst}
@@ -16,7 +16,7 @@ use Rattle.tolerances.specs.Laws.{laws}
 use Rattle.definition.specs.declared.Counts.{Counts}
 use Rattle.definition.specs.Model.{with_terms, Model, written, op_of, rhs_of, Row}
 use Rattle.definition.specs.Work.{Work, Step, stop, next, ◌>>=◌, no_row}
-use Rattle.points_kept.specs.Statements.{PointSet, PureInteger, Meets, dot, Within, Point}
+use Rattle.points_kept.specs.Statements.{PureInteger, Meets, dot, Within, Point}
 use Rattle.points_kept.specs.Integers.{eq_parts}
 use Rattle.definition.specs.Tests.{and, test, all_true, differ}
 use Rattle.points_kept.specs.WholeFloats.{finite}
@@ -109,30 +109,28 @@ module _ (M : Model) where
     pub alive : T row.alive → RowOk el eh r row
     pub dead : T (not row.alive) → (x : ℕ → ℤ) → Within (length M.lower) el eh x → RowSided M r x
 
-  -- for a set of points sought: the model's, or a state's own
-  pub record Good (Sought : PointSet) (wl wh el eh : List Float) (rows : List Row) : Type 0 where
+  pub record Good (wl wh el eh : List Float) (rows : List Row) : Type 0 where
     pub wl_length : length wl ≡ length M.lower
     pub wh_length : length wh ≡ length M.lower
     pub el_length : length el ≡ length M.lower
     pub eh_length : length eh ≡ length M.lower
     pub rows_length : length rows ≡ length M.rhs
     pub interval : (v : ℕ) → v < length M.lower → IntervalAt wl wh el eh v
-    pub keeps : (x : ℕ → ℤ) → Sought x → Within (length M.lower) el eh x
-    pub asks : (x : ℕ → ℤ) → Sought x → (r : ℕ) → r < length M.rhs → RowSided M r x
+    pub keeps : (x : ℕ → ℤ) → Point M x → Within (length M.lower) el eh x
     pub shrinks : (x : ℕ → ℤ) → Within (length M.lower) el eh x → Within (length M.lower) M.lower M.upper x
     pub row : (r : ℕ) → r < length M.rhs → RowAt el eh r (get_or rows r no_row)
 
-  abbrev pub GoodW : PointSet → Work → Type 0
-  GoodW Sought w = Good Sought w.wlo w.whi w.elo w.ehi w.rows
+  abbrev pub GoodW : Work → Type 0
+  GoodW w = Good w.wlo w.whi w.elo w.ehi w.rows
 
-  abbrev pub NoPoint : PointSet → Type 0
-  NoPoint Sought = (x : ℕ → ℤ) → Sought x → ⊥
+  abbrev pub NoPoint : Type 0
+  NoPoint = (x : ℕ → ℤ) → Point M x → ⊥
 
-  pub data Each (Sought : PointSet) (Q : Work → Type 0) : Step → Type 0 where
-    stopped : {k : Counts} → NoPoint Sought → Each Sought Q (stop k)
-    went : {w : Work} → Q w → Each Sought Q (next w)
+  pub data Each (Q : Work → Type 0) : Step → Type 0 where
+    stopped : {k : Counts} → NoPoint → Each Q (stop k)
+    went : {w : Work} → Q w → Each Q (next w)
 
-  pub then : {Sought : PointSet} {Q R : Work → Type 0} {s : Step} {f : Work → Step} → Each Sought Q s → ((w : Work) → Q w → Each Sought R (f w)) → Each Sought R (s >>= f)
+  pub then : {Q R : Work → Type 0} {s : Step} {f : Work → Step} → Each Q s → ((w : Work) → Q w → Each R (f w)) → Each R (s >>= f)
   then (stopped n) q = stopped n
   then (went {w} p) q = q w p
 
@@ -198,10 +196,10 @@ module _ (M : Model) where
         same = λ x h. let q = e x h in o.same x q.0 ∙ ap (λ (z : ℤ). z +ℤ int (rhs_of M r)) (sym q.1);
       }
 
-  pub narrow : {Sought : PointSet} (wl wh el eh wl' wh' el' eh' : List Float) (rows : List Row) → Good Sought wl wh el eh rows
+  pub narrow : (wl wh el eh wl' wh' el' eh' : List Float) (rows : List Row) → Good wl wh el eh rows
       → length wl' ≡ length M.lower → length wh' ≡ length M.lower → length el' ≡ length M.lower → length eh' ≡ length M.lower
       → ((v : ℕ) → v < length M.lower → IntervalAt wl' wh' el' eh' v) → ((v : ℕ) → v < length M.lower → Narrower el eh el' eh' v)
-      → ((x : ℕ → ℤ) → Sought x → Within (length M.lower) el' eh' x) → Good Sought wl' wh' el' eh' rows
+      → ((x : ℕ → ℤ) → Point M x → Within (length M.lower) el' eh' x) → Good wl' wh' el' eh' rows
   narrow wl wh el eh wl' wh' el' eh' rows g a b c d ints nar keeps =
       record {
         wl_length = a;
@@ -211,7 +209,6 @@ module _ (M : Model) where
         rows_length = g.rows_length;
         interval = ints;
         keeps = keeps;
-        asks = g.asks;
         shrinks = λ x h. g.shrinks x (wider x h);
         row = λ r h. record { alive = λ t. again ((g.row r h).alive t); dead = λ t x k. (g.row r h).dead t x (wider x k) };
       }
@@ -223,8 +220,7 @@ module _ (M : Model) where
       again {row = row} o = re_terms row.terms o o.terms o.distinct (omega arith) (λ x h. (agrees wl wh el eh wl' wh' el' eh' x g.el_length g.interval ints nar h, refl))
 
   -- ---- one row changed
-  pub set_row : {Sought : PointSet} (wl wh el eh : List Float) (rows : List Row) (r : ℕ) (row : Row)
-      → r < length M.rhs → Good Sought wl wh el eh rows → RowAt el eh r row → Good Sought wl wh el eh (set rows r row)
+  pub set_row : (wl wh el eh : List Float) (rows : List Row) (r : ℕ) (row : Row) → r < length M.rhs → Good wl wh el eh rows → RowAt el eh r row → Good wl wh el eh (set rows r row)
   set_row wl wh el eh rows r row h g o =
       record {
         wl_length = g.wl_length;
@@ -233,7 +229,6 @@ module _ (M : Model) where
         eh_length = g.eh_length;
         interval = g.interval;
         keeps = g.keeps;
-        asks = g.asks;
         shrinks = g.shrinks;
         rows_length = length-set rows r row ∙ g.rows_length;
         row = λ j k. elim (test (eqb j r)) [

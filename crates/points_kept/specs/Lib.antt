@@ -1,8 +1,6 @@
--- Presolve keeps exactly the points of a model of whole numbers alone. `Statements` says it, `Reading` how it reads; `Theorem` has it. With dual fixing
--- on the least objective is kept: `Objective` says it, `BestKept` has it. And the activity of a row that is not rewritten is exact, in every state that presolve
--- reaches on such a model: `ActivityEverywhere` has it.
+-- Presolve keeps exactly the points of a model of whole numbers alone. `Statements` says it, `Reading` how it reads; `Theorem` has it. And the activity of a
+-- row that is not rewritten is exact, in every state that presolve reaches on such a model: `ActivityEverywhere` has it.
 pub mod Statements
-pub mod Objective
 pub mod Integers
 pub mod Reading
 -- whole floats, lists of terms, and the invariant over the working state
@@ -32,17 +30,10 @@ pub mod NoTerm
 pub mod Waves
 pub mod FourthCount
 pub mod Coefficients
-pub mod Output
-pub mod Dominance
 pub mod Rounds
+pub mod Output
 pub mod Start
 pub mod Theorem
--- dual fixing: the flags, a point with one value moved, the step; and that a least point exists, and is kept
-pub mod Blocked
-pub mod Moved
-pub mod DualFixing
-pub mod LeastExists
-pub mod BestKept
 -- Savelsbergh's activity by name, and closed models
 pub mod ActivityExact
 pub mod Example
@@ -51,5 +42,3 @@ pub mod WholeBox
 pub mod UnrewrittenRows
 pub mod ActivityEverywhere
 pub mod Mixed
--- and of the least objective, a closed model that loses points
-pub mod BestExample

@@ -19,7 +19,7 @@ use Rattle.tolerances.specs.Budget.{row_tol}
 use Rattle.definition.specs.Model.{Model, op_of, rhs_of, written, Row}
 use Rattle.definition.specs.Work.{Work, Step, fixed, drop_row}
 use Rattle.definition.specs.Singles.{empty_row_check, fixed_value}
-use Rattle.points_kept.specs.Statements.{PointSet, dot, Within}
+use Rattle.points_kept.specs.Statements.{dot, Within}
 use Rattle.points_kept.specs.Integers.{eq_parts}
 use Rattle.definition.specs.Choices.{both}
 use Rattle.definition.specs.Tests.{and, taking, chosen}
@@ -32,17 +32,17 @@ use Rattle.points_kept.specs.ImpliedSlack.{Slack, implied_from_lem}
 use Rattle.points_kept.specs.Verdicts.{inside_ok, outside_ok, verdict_true, verdict_none}
 
 -- good, with the bounds of w, within which row r is met
-pub record Beside (M : Model) (Sought : PointSet) (r : ℕ) (w x : Work) : Type 0 where
-  pub good : GoodW M Sought x
+pub record Beside (M : Model) (r : ℕ) (w x : Work) : Type 0 where
+  pub good : GoodW M x
   pub met : (y : ℕ → ℤ) → Within (length M.lower) w.elo w.ehi y → RowSided M r y
   pub elo : x.elo ≡ w.elo
   pub ehi : x.ehi ≡ w.ehi
 
-pub good_of : {M : Model} {Sought : PointSet} {r : ℕ} {w : Work} {s : Step} → Each M Sought (Beside M Sought r w) s → Each M Sought (GoodW M Sought) s
+pub good_of : {M : Model} {r : ℕ} {w : Work} {s : Step} → Each M (Beside M r w) s → Each M (GoodW M) s
 good_of (stopped n) = stopped n
 good_of (went b) = went b.good
 
-module _ {M : Model} {Sought : PointSet} {w : Work} {r : ℕ} {row : Row} (σ : AtWork M Sought w r row) (e : row.terms ≡ []) where
+module _ {M : Model} {w : Work} {r : ℕ} {row : Row} (σ : AtWork M w r row) (e : row.terms ≡ []) where
   abbrev B : Float
   B = rhs_of M r
 
@@ -103,10 +103,10 @@ module _ {M : Model} {Sought : PointSet} {w : Work} {r : ℕ} {row : Row} (σ : 
   out = outside (implied_slack (fixed_value w) B TS).0 (slack_min (op_of M r)) (slack_max (op_of M r)) (row_tolerance M.feas (implied_slack (fixed_value w) B TS).1)
 
   -- A ROW OF NO TERM keeps the invariant, and the bounds
-  pub empty_keeps : Each M Sought (Beside M Sought r w) (empty_row_check M r row w)
+  pub empty_keeps : Each M (Beside M r w) (empty_row_check M r row w)
   unfolding empty_row_check violated dot drop_row
   empty_keeps =
-      taking (Each M Sought (Beside M Sought r w)) (not triv && out)
+      taking (Each M (Beside M r w)) (not triv && out)
       (λ t. stopped (λ x p.
       let m = subst (λ (ts : List Term). Sided (op_of M r) (dot x ts) σ.ok.b) e (point_meets σ x p) in
       outside_ok (op_of M r) _ _ σ.ok.b value_is tol_is (and (not triv) out t).1 m.below m.above))

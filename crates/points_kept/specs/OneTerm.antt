@@ -18,7 +18,7 @@ use Rattle.definition.specs.Model.{Model, op_of, is_int, Row, tightened}
 use Rattle.definition.specs.Work.{Work, Step, next, ◌>>=◌, with_counts}
 use Rattle.definition.specs.Bounds.{emit_bounds, mark_tightened}
 use Rattle.definition.specs.Singles.{finite_mag, room_at, widened_at, dropped_room, singleton_bounds, singleton_drop, singleton_row, new_lower, new_upper, singleton_int, lower_meets, upper_meets}
-use Rattle.points_kept.specs.Statements.{PointSet, dot, Within}
+use Rattle.points_kept.specs.Statements.{dot, Within, Point}
 use Rattle.points_kept.specs.Integers.{eq_parts}
 use Rattle.definition.specs.Choices.{both}
 use Rattle.definition.specs.Tests.{and, or, taking, if_true, alike_by}
@@ -31,7 +31,7 @@ use Rattle.points_kept.specs.Activity.{bound_tol_lem}
 use Rattle.points_kept.specs.WorkingRow.{int_var, met_in, rhs_mag_lem, scale_mag, budget_tol, AtWork, point_meets}
 use Rattle.points_kept.specs.Quotients.{AtMost, AtLeast, rises, falls, more_least, less_most, Signed, upper_keeps, lower_keeps, least_meets, most_meets}
 
-module _ {M : Model} {Sought : PointSet} {w0 : Work} {r : ℕ} {row : Row} (σ : AtWork M Sought w0 r row) where
+module _ {M : Model} {w0 : Work} {r : ℕ} {row : Row} (σ : AtWork M w0 r row) where
   finite_mag_lem : {x : Float} → Is x σ.ok.b → Mag (2 ^ 45) (finite_mag row x)
   unfolding finite_mag
   finite_mag_lem {x} p =
@@ -95,8 +95,8 @@ module _ {M : Model} {Sought : PointSet} {w0 : Work} {r : ℕ} {row : Row} (σ :
     abbrev Below : Bool → ℤ → Type 0
     Below free? x = T (not free?) → AtMost (int a) σ.ok.b x
 
-    module _ (v : ℕ) (h : v < length M.lower) (fl fu : Bool) (blo bhi : Float) (lower : End fl blo) (upper : End fu bhi) (asked : (x : ℕ → ℤ) → Sought x → Above fl (x v) × Below fu (x v)) where
-      X : (x : ℕ → ℤ) → Sought x → Is (of_int binary64 (x v)) (x v)
+    module _ (v : ℕ) (h : v < length M.lower) (fl fu : Bool) (blo bhi : Float) (lower : End fl blo) (upper : End fu bhi) (asked : (x : ℕ → ℤ) → Point M x → Above fl (x v) × Below fu (x v)) where
+      X : (x : ℕ → ℤ) → Point M x → Is (of_int binary64 (x v)) (x v)
       X x p = value M w0 v x σ.good h p
 
       -- ---- the new bounds: no point lies beyond them
@@ -106,13 +106,13 @@ module _ {M : Model} {Sought : PointSet} {w0 : Work} {r : ℕ} {row : Row} (σ :
       abbrev new_hi : Float
       new_hi = new_upper M r row a bhi (at w0.ehi v)
 
-      elo_sound : (x : ℕ → ℤ) → Sought x → at w0.elo v ≼ of_int binary64 (x v)
+      elo_sound : (x : ℕ → ℤ) → Point M x → at w0.elo v ≼ of_int binary64 (x v)
       elo_sound x p = le_of (σ.good.interval v h).lo.whole (X x p).whole (subst (λ (z : ℤ). int (at w0.elo v) ⊑ z) (sym (X x p).is) (σ.good.keeps x p v h).0)
 
-      ehi_sound : (x : ℕ → ℤ) → Sought x → of_int binary64 (x v) ≼ at w0.ehi v
+      ehi_sound : (x : ℕ → ℤ) → Point M x → of_int binary64 (x v) ≼ at w0.ehi v
       ehi_sound x p = le_of (X x p).whole (σ.good.interval v h).hi.whole (subst (λ (z : ℤ). z ⊑ int (at w0.ehi v)) (sym (X x p).is) (σ.good.keeps x p v h).1)
 
-      lo_sound : (x : ℕ → ℤ) → Sought x → new_lo ≼ of_int binary64 (x v)
+      lo_sound : (x : ℕ → ℤ) → Point M x → new_lo ≼ of_int binary64 (x v)
       unfolding new_lower maxf
       lo_sound x p =
           let S : Float → Type 0 = λ y. y ≼ of_int binary64 (x v) in
@@ -122,7 +122,7 @@ module _ {M : Model} {Sought : PointSet} {w0 : Work} {r : ℕ} {row : Row} (σ :
           both S _ (lower_keeps (b_bounded b) ba (widened_ok b) (X x p) (subst (λ (z : ℤ). AtLeast (int a) z (x v)) (sym b.is) ((asked x p).0 (not_free lower f)))) (elo_sound x p))
           (λ f. elo_sound x p)
 
-      hi_sound : (x : ℕ → ℤ) → Sought x → of_int binary64 (x v) ≼ new_hi
+      hi_sound : (x : ℕ → ℤ) → Point M x → of_int binary64 (x v) ≼ new_hi
       unfolding new_upper minf
       hi_sound x p =
           let S : Float → Type 0 = λ y. of_int binary64 (x v) ≼ y in
@@ -132,7 +132,7 @@ module _ {M : Model} {Sought : PointSet} {w0 : Work} {r : ℕ} {row : Row} (σ :
           both S _ (upper_keeps (b_bounded b) ba (widened_ok b) (X x p) (subst (λ (z : ℤ). AtMost (int a) z (x v)) (sym b.is) ((asked x p).1 (not_free upper f)))) (ehi_sound x p))
           (λ f. ehi_sound x p)
 
-      emit_ok : new_hi ⊀ new_lo → From M Sought w0 (emit_bounds M v new_lo new_hi w0)
+      emit_ok : new_hi ⊀ new_lo → From M w0 (emit_bounds M v new_lo new_hi w0)
       unfolding emit_bounds mark_tightened
       emit_ok n =
           record { good = all.0; nars = s.1; rows = all.1 }
@@ -140,7 +140,7 @@ module _ {M : Model} {Sought : PointSet} {w0 : Work} {r : ℕ} {row : Row} (σ :
           o : Shrunk (at w0.elo v) (at w0.ehi v) (minf (maxf (at w0.wlo v) new_lo) new_hi) (maxf (minf (at w0.whi v) new_hi) new_lo) new_lo new_hi
           o = singled M r row a blo bhi (σ.good.interval v h) n
 
-          s : Good M Sought (set w0.wlo v (minf (maxf (at w0.wlo v) new_lo) new_hi)) (set w0.whi v (maxf (minf (at w0.whi v) new_hi) new_lo))
+          s : Good M (set w0.wlo v (minf (maxf (at w0.wlo v) new_lo) new_hi)) (set w0.whi v (maxf (minf (at w0.whi v) new_hi) new_lo))
               (set w0.elo v new_lo) (set w0.ehi v new_hi) w0.rows
               × ((j : ℕ) → j < length M.lower → Narrower w0.elo w0.ehi (set w0.elo v new_lo) (set w0.ehi v new_hi) j)
           s = set_good M w0.wlo w0.whi w0.elo w0.ehi (set w0.wlo v (minf (maxf (at w0.wlo v) new_lo) new_hi)) (set w0.whi v (maxf (minf (at w0.whi v) new_hi) new_lo))
@@ -156,16 +156,16 @@ module _ {M : Model} {Sought : PointSet} {w0 : Work} {r : ℕ} {row : Row} (σ :
               (omega (arith, ap P e.is, ap N e.is), omega (arith, ap P e.is, ap N e.is)))
 
           Q : Work → Type 0
-          Q w = Good M Sought (set w0.wlo v (minf (maxf (at w0.wlo v) new_lo) new_hi)) (set w0.whi v (maxf (minf (at w0.whi v) new_hi) new_lo))
+          Q w = Good M (set w0.wlo v (minf (maxf (at w0.wlo v) new_lo) new_hi)) (set w0.whi v (maxf (minf (at w0.whi v) new_hi) new_lo))
               (set w0.elo v new_lo) (set w0.ehi v new_hi) w.rows × (w.rows ≡ w0.rows)
 
           all : Q (choose (lt (at w0.elo v) new_lo || lt new_hi (at w0.ehi v)) (mark_tightened M v w0) w0)
           all = both Q (lt (at w0.elo v) new_lo || lt new_hi (at w0.ehi v)) (mark_any M Q (λ w d c q k. k) v (with_counts (tightened w0.counts) w0) (s.0, refl)) (s.0, refl)
 
-      bounds_ok : Each M Sought (From M Sought w0) (singleton_bounds M r row v a blo bhi w0)
+      bounds_ok : Each M (From M w0) (singleton_bounds M r row v a blo bhi w0)
       unfolding singleton_bounds singleton_int
       bounds_ok =
-          let E : Step → Type 0 = Each M Sought (From M Sought w0) in
+          let E : Step → Type 0 = Each M (From M w0) in
           if_true E (is_int M v) _ (int_var M σ.pure v h)
           (taking E _
           (λ t. stopped (λ x p.
@@ -175,7 +175,7 @@ module _ {M : Model} {Sought : PointSet} {w0 : Work} {r : ℕ} {row : Row} (σ :
           (λ t. went (emit_ok (record { nlt = t }))))
 
       -- ---- the drop: within the bounds that are left, each end is met
-      lower_met : (w1 : Work) → From M Sought w0 w1 → T (lower_meets M row v a blo w1) → (x : ℤ) → int (at w1.elo v) ⊑ x → Above fl x
+      lower_met : (w1 : Work) → From M w0 w1 → T (lower_meets M row v a blo w1) → (x : ℤ) → int (at w1.elo v) ⊑ x → Above fl x
       unfolding lower_meets dropped_room
       lower_met w1 f t x k s =
           let b = lower.shut s in
@@ -186,7 +186,7 @@ module _ {M : Model} {Sought : PointSet} {w0 : Work} {r : ℕ} {row : Row} (σ :
                 (least_meets (b_bounded b) ba (f.good.interval v h).lo (dropped_ok b) (tol_nonneg (bound_tol_lem M w1 σ.pure f.good.interval v false h)) sg (record { le = l }))) k
           ]
 
-      upper_met : (w1 : Work) → From M Sought w0 w1 → T (upper_meets M row v a bhi w1) → (x : ℤ) → x ⊑ int (at w1.ehi v) → Below fu x
+      upper_met : (w1 : Work) → From M w0 w1 → T (upper_meets M row v a bhi w1) → (x : ℤ) → x ⊑ int (at w1.ehi v) → Below fu x
       unfolding upper_meets dropped_room
       upper_met w1 f t x k s =
           let b = upper.shut s in
@@ -200,10 +200,10 @@ module _ {M : Model} {Sought : PointSet} {w0 : Work} {r : ℕ} {row : Row} (σ :
       abbrev Joined : Type 0
       Joined = (x : ℕ → ℤ) → Above fl (x v) → Below fu (x v) → Sided (op_of M r) (dot x row.terms) σ.ok.b
 
-      drops_ok : (w1 : Work) → From M Sought w0 w1 → Joined → GoodW M Sought (singleton_drop M r row v a blo bhi w1)
+      drops_ok : (w1 : Work) → From M w0 w1 → Joined → GoodW M (singleton_drop M r row v a blo bhi w1)
       unfolding singleton_drop
       drops_ok w1 f m =
-          taking (GoodW M Sought) (lower_meets M row v a blo w1 && upper_meets M row v a bhi w1)
+          taking (GoodW M) (lower_meets M row v a blo w1 && upper_meets M row v a bhi w1)
           (λ t.
           let d = and (lower_meets M row v a blo w1) _ t in
           drop_ok M r row w1 σ.range f.good (λ x k.
@@ -211,17 +211,17 @@ module _ {M : Model} {Sought : PointSet} {w0 : Work} {r : ℕ} {row : Row} (σ :
           met_in σ x k0 (m x (lower_met w1 f d.0 (x v) (k v h).0) (upper_met w1 f d.1 (x v) (k v h).1))))
           (λ t. f.good)
 
-      both_ok : Joined → Each M Sought (GoodW M Sought) (singleton_bounds M r row v a blo bhi w0 >>= λ w1. next (singleton_drop M r row v a blo bhi w1))
-      both_ok m = then M {R = GoodW M Sought} bounds_ok (λ w1 f. went (drops_ok w1 f m))
+      both_ok : Joined → Each M (GoodW M) (singleton_bounds M r row v a blo bhi w0 >>= λ w1. next (singleton_drop M r row v a blo bhi w1))
+      both_ok m = then M {R = GoodW M} bounds_ok (λ w1 f. went (drops_ok w1 f m))
 
   -- A ROW OF ONE TERM keeps the invariant
-  pub single_ok : (t : Term) → row.terms ≡ t ∷ [] → NonZero t → Each M Sought (GoodW M Sought) (singleton_row M r row t w0)
+  pub single_ok : (t : Term) → row.terms ≡ t ∷ [] → NonZero t → Each M (GoodW M) (singleton_row M r row t w0)
   unfolding singleton_row dot
   single_ok t e nt =
       let a = t.coeff in
       let f₁ = eqb (op_of M r) 1 in
       let f₂ = eqb (op_of M r) 2 in
-      alike_by (λ (blo bhi : Float). Each M Sought (GoodW M Sought) (singleton_bounds M r row t.var a blo bhi w0 >>= λ w1. next (singleton_drop M r row t.var a blo bhi w1))) (lt 0f a)
+      alike_by (λ (blo bhi : Float). Each M (GoodW M) (singleton_bounds M r row t.var a blo bhi w0 >>= λ w1. next (singleton_drop M r row t.var a blo bhi w1))) (lt 0f a)
       (λ s.
       let p = sign_pos a c.coeff.whole s in
       both_ok a c.coeff (inl p) t.var c.var f₁ f₂ row.lo row.hi (lo_end a c.coeff (inl p)) (hi_end a c.coeff (inl p))
@@ -258,7 +258,7 @@ module _ {M : Model} {Sought : PointSet} {w0 : Work} {r : ℕ} {row : Row} (σ :
       one : (x : ℕ → ℤ) → dot x row.terms ≡ A₀ *ℤ x t.var
       one x = ap (dot x) e ∙ +ℤ_idr (A₀ *ℤ x t.var)
 
-      asked : (x : ℕ → ℤ) → Sought x → Sided (op_of M r) (A₀ *ℤ x t.var) σ.ok.b
+      asked : (x : ℕ → ℤ) → Point M x → Sided (op_of M r) (A₀ *ℤ x t.var) σ.ok.b
       asked x p = subst (λ (z : ℤ). Sided (op_of M r) z σ.ok.b) (one x) (point_meets σ x p)
 
       back : (x : ℕ → ℤ) → (T (not (eqb (op_of M r) 1)) → σ.ok.b ⊑ A₀ *ℤ x t.var) → (T (not (eqb (op_of M r) 2)) → A₀ *ℤ x t.var ⊑ σ.ok.b) → Sided (op_of M r) (dot x row.terms) σ.ok.b

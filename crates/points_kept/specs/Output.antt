@@ -1,5 +1,4 @@
--- `out_from` to `answer_of`: a row that goes out as written, and one that all within the bounds meet, together are the model's rows, so the answer has
--- all of the points sought and none but the model's.
+-- `out_from` to `answer_of`: a row that goes out as written, and one that all within the bounds meet, together are the model's rows, so the answer is exact.
 use Prim.Native.Nat.{ℕ, zero, suc, ◌+◌, ◌≤◌, ◌<◌}
 use native.Mathlib.Omega.{arith}
 use Rattle.std.specs.Prelude.{◌≡◌, ◌⊎◌, Bool, false, T, ℤ, length, Float}
@@ -14,13 +13,13 @@ use Rattle.floats.specs.Points.{Whole, int}
 use Rattle.floats.specs.Num.{choose, is_finite}
 use Rattle.floats.specs.Zed.{◌⊑◌}
 use Rattle.tolerances.specs.Tol.{Term, at}
-use Rattle.definition.specs.Model.{Model, nnz, written, op_of, rhs_of, Row, Emit, Reduced, Answer, infeasible, done}
-use Rattle.definition.specs.Work.{Work, Step, next, with_row, no_row, trivial}
+use Rattle.definition.specs.Model.{Model, nnz, written, op_of, rhs_of, Row, Emit, Reduced}
+use Rattle.definition.specs.Work.{Work, Step, stop, next, with_row, no_row, trivial}
 use Rattle.definition.specs.Folds.{fold_fixed}
 use Rattle.definition.specs.Bindings.{rewritten_bound}
 use Rattle.definition.specs.Emit.{Out, Final, fails, final, no_out, emit_written, no_terms, out_row, out_empty, out_alive, out_one, out_from, answer_of, written_entry, emit_rewritten, sort_terms, differs}
 use Rattle.definition.specs.Presolve.{finish}
-use Rattle.points_kept.specs.Statements.{PointSet, WholeReduced, PureInteger, dot, Within, Point, terms_of, Meets, MeetsReduced}
+use Rattle.points_kept.specs.Statements.{WholeReduced, PureInteger, dot, Within, Point, terms_of, Exact, Meets, MeetsReduced}
 use Rattle.definition.specs.Choices.{both}
 use Rattle.definition.specs.Tests.{taking, last_or}
 use Rattle.points_kept.specs.Terms.{member_all, TermOk}
@@ -32,19 +31,9 @@ use Rattle.points_kept.specs.NoTerm.{Beside, empty_keeps}
 use Rattle.points_kept.specs.Waves.{replaced}
 use Rattle.points_kept.specs.FourthCount.{Counted, halts, goes, empty_c}
 use Rattle.points_kept.specs.Coefficients.{Ok}
+use Rattle.points_kept.specs.Rounds.{Ended, ends, runs}
 
--- a count that is counted is not 0
-pub not_zero : (n : ℕ) → 0 < n → n ≡ 0 → ⊥
-not_zero n h e = omega arith
-
--- what is answered from a state that is good for the points sought, where no coefficient is rewritten: infeasible says that there is none of them; a reduced
--- model is of whole numbers, has all of them, and none but the model's
-abbrev pub Keeps : Model → PointSet → Answer → Type 0
-Keeps M Sought (infeasible k) = k.coeffsTightened ≡ 0 → NoPoint M Sought
-Keeps M Sought (done R) =
-    R.counts.coeffsTightened ≡ 0 → WholeReduced M R × ((x : ℕ → ℤ) → Sought x → MeetsReduced M R x) × ((x : ℕ → ℤ) → MeetsReduced M R x → Point M x)
-
-module _ (M : Model) (Sought : PointSet) (pure : PureInteger M) where
+module _ (M : Model) (pure : PureInteger M) where
   -- where row j has gone to: it is emitted as written, or all within the bounds meet it
   abbrev Fate : Work → List Emit → ℕ → Type 0
   Fate w es j = Memᴰ (written_entry M j) es ⊎ ((x : ℕ → ℤ) → Within (length M.lower) w.elo w.ehi x → RowSided M j x)
@@ -58,16 +47,16 @@ module _ (M : Model) (Sought : PointSet) (pure : PureInteger M) where
   older w w' es es' el eh more j (inr f) = inr (λ x k. f x (back w w' el eh x k))
 
   record Gone (r : ℕ) (w : Work) (o : Out) : Type 0 where
-    good : GoodW M Sought w
+    good : GoodW M w
     fate : (j : ℕ) → j < r → Fate w o.emitted j
     only : (e : Emit) → Memᴰ e o.emitted → (j : ℕ) × (j < length M.rhs) × (e ≡ written_entry M j)
 
   abbrev GoneF : ℕ → Final → Type 0
-  GoneF r (fails k) = NoPoint M Sought ⊎ (0 < k.coeffsTightened)
+  GoneF r (fails k) = NoPoint M ⊎ (0 < k.coeffsTightened)
   GoneF r (final w o) = Gone r w o ⊎ (0 < w.counts.coeffsTightened)
 
   -- ---- one row more: which all within the bounds meet, or emitted as written
-  met_now : (r : ℕ) (w w' : Work) (o : Out) (ks : List ℕ) → Gone r w o → GoodW M Sought w' → w'.elo ≡ w.elo → w'.ehi ≡ w.ehi
+  met_now : (r : ℕ) (w w' : Work) (o : Out) (ks : List ℕ) → Gone r w o → GoodW M w' → w'.elo ≡ w.elo → w'.ehi ≡ w.ehi
       → ((x : ℕ → ℤ) → Within (length M.lower) w.elo w.ehi x → RowSided M r x)
       → Gone (suc r) w' (record { emitted = o.emitted; terms = o.terms; kept = ks })
   met_now r w w' o ks g g' el eh m =
@@ -77,7 +66,7 @@ module _ (M : Model) (Sought : PointSet) (pure : PureInteger M) where
         only = g.only;
       }
 
-  emit_now : (r : ℕ) (w w' : Work) (o : Out) → r < length M.rhs → Gone r w o → GoodW M Sought w' → w'.elo ≡ w.elo → w'.ehi ≡ w.ehi → Gone (suc r) w' (emit_written M r o)
+  emit_now : (r : ℕ) (w w' : Work) (o : Out) → r < length M.rhs → Gone r w o → GoodW M w' → w'.elo ≡ w.elo → w'.ehi ≡ w.ehi → Gone (suc r) w' (emit_written M r o)
   emit_now r w w' o hr g g' el eh =
       record {
         good = g';
@@ -87,7 +76,7 @@ module _ (M : Model) (Sought : PointSet) (pure : PureInteger M) where
       }
 
   -- a row of no term at the end
-  empty_now : (r : ℕ) (w : Work) (o : Out) {s : Step} → Gone r w o → Each M Sought (Beside M Sought r w) s → GoneF (suc r) (out_empty M r o s)
+  empty_now : (r : ℕ) (w : Work) (o : Out) {s : Step} → Gone r w o → Each M (Beside M r w) s → GoneF (suc r) (out_empty M r o s)
   unfolding out_empty
   empty_now r w o g (stopped n) = inl n
   empty_now r w o g (went {w = w'} b) = inl (met_now r w w' o (o.kept ++ (r ∷ [])) g b.good b.elo b.ehi b.met)
@@ -112,7 +101,7 @@ module _ (M : Model) (Sought : PointSet) (pure : PureInteger M) where
   unfolding out_alive
   alive_now r w o g row0 row hr a f =
       let w1 = with_row r row w in
-      let g1 : GoodW M Sought w1 = replaced pure r w row0 row hr g.good a f in
+      let g1 : GoodW M w1 = replaced pure r w row0 row hr g.good a f in
       let og : Gone r w1 o = record { good = g1; fate = g.fate; only = g.only } in
       taking (GoneF (suc r)) (no_terms row.terms)
       (λ t. empty_now r w1 o og (empty_keeps (record { pure = pure; good = g1; range = hr; ok = f.ok }) (nil_terms row.terms t)))
@@ -155,18 +144,19 @@ module _ (M : Model) (Sought : PointSet) (pure : PureInteger M) where
   abbrev EmitMet : Reduced → (ℕ → ℤ) → Emit → Type 0
   EmitMet R x e = Meets (op_of M e.row) (dot x (terms_of M R e)) (int e.rhs)
 
-  entry_met : (R : Reduced) (x : ℕ → ℤ) → ((r : ℕ) → r < length M.rhs → RowSided M r x) → (e : Emit) → (j : ℕ) × (j < length M.rhs) × (e ≡ written_entry M j)
-      → EmitMet R x e
+  entry_met : (R : Reduced) (x : ℕ → ℤ) → Point M x → (e : Emit) → (j : ℕ) × (j < length M.rhs) × (e ≡ written_entry M j) → EmitMet R x e
   entry_met R x p e q =
-      subst (EmitMet R x) (sym q.2)
-      (subst (λ (ts : List Term). Meets (op_of M q.0) (dot x ts) (int (rhs_of M q.0))) (sym (entry_terms R q.0)) (meets (op_of M q.0) (pure.shape.op q.0 q.1) (p q.0 q.1)))
+      subst (EmitMet R x) (sym q.2) (subst (λ (ts : List Term). Meets (op_of M q.0) (dot x ts) (int (rhs_of M q.0))) (sym (entry_terms R q.0)) (p.rows q.0 q.1))
 
-  answer_ok : (s : Final) → GoneF (length M.rhs) s → Keeps M Sought (answer_of M s)
+  not_zero : (n : ℕ) → 0 < n → n ≡ 0 → ⊥
+  not_zero n h e = omega arith
+
+  answer_ok : (s : Final) → GoneF (length M.rhs) s → Exact M (answer_of M s)
   unfolding answer_of
   answer_ok (fails k) (inl n) = λ z x p. n x p
   answer_ok (fails k) (inr c) = λ z x p. not_zero k.coeffsTightened c z
   answer_ok (final w o) (inr c) = λ z. absurd (not_zero w.counts.coeffsTightened c z)
-  answer_ok (final w o) (inl g) = λ z. (numbers, (λ x p. record { bounds = g.good.keeps x p; rows = λ e i. entry_met R x (g.good.asks x p) e (g.only e i) }), point)
+  answer_ok (final w o) (inl g) = λ z. (numbers, λ x. (λ m. point x m, λ p. record { bounds = g.good.keeps x p; rows = λ e i. entry_met R x p e (g.only e i) }))
     where
       R : Reduced
       R = record { counts = w.counts; lower = w.elo; upper = w.ehi; emitted = o.emitted; terms = o.terms; kept = o.kept; flag = differs M w o }
@@ -196,9 +186,11 @@ module _ (M : Model) (Sought : PointSet) (pure : PureInteger M) where
             ];
           }
 
-  pub finish_ok : (w : Work) → Ok M Sought w → Keeps M Sought (finish M (next w))
+  pub finish_ok : (s : Step) → Ended M s → Exact M (finish M s)
   unfolding finish
-  finish_ok w h = answer_ok _ (subst (λ (k : ℕ). GoneF k (out_from M (length M.rhs) 0 (final w no_out))) (nought (length M.rhs))
+  finish_ok (stop k) (ends (inl n)) = λ z x p. n x p
+  finish_ok (stop k) (ends (inr c)) = λ z x p. not_zero k.coeffsTightened c z
+  finish_ok (next w) (runs h) = answer_ok _ (subst (λ (k : ℕ). GoneF k (out_from M (length M.rhs) 0 (final w no_out))) (nought (length M.rhs))
       (from_now (length M.rhs) 0 (final w no_out) (omega arith) (begin h)))
     where
       nought : (n : ℕ) → 0 + n ≡ n
@@ -207,6 +199,6 @@ module _ (M : Model) (Sought : PointSet) (pure : PureInteger M) where
       none : (j : ℕ) → j < 0 → ⊥
       none j h = omega arith
 
-      begin : Ok M Sought w → GoneF 0 (final w no_out)
+      begin : Ok M w → GoneF 0 (final w no_out)
       begin (inl g) = inl (record { good = g; fate = λ j h. absurd (none j h); only = λ e m. absurd (Memᴰ.not-nil m) })
       begin (inr p) = inr p

@@ -13,7 +13,7 @@ use Rattle.definition.specs.declared.Activity.{Activity}
 use Rattle.definition.specs.Model.{Model, Row, op_of}
 use Rattle.definition.specs.Work.{Work}
 use Rattle.definition.specs.Sides.{within_by, within, mag_both, redundant, within_lo, within_hi, side_mag}
-use Rattle.points_kept.specs.Statements.{PointSet, Within, dot}
+use Rattle.points_kept.specs.Statements.{Within, dot}
 use Rattle.definition.specs.Tests.{and, or, taking, nor}
 use Rattle.points_kept.specs.Margins.{nonneg_times}
 use Rattle.points_kept.specs.WholeFloats.{finite, zero_is, one_is, apart_le, Mag, mag_sum, of_nlt}
@@ -21,7 +21,7 @@ use Rattle.points_kept.specs.Invariant.{RowSided}
 use Rattle.points_kept.specs.Activity.{above_low, below_high, ActivityOf, L, H, corner_mag}
 use Rattle.points_kept.specs.WorkingRow.{met_in, finite_hi, finite_lo, rhs_mag_lem, scale_mag, AtWork}
 
-module _ {M : Model} {Sought : PointSet} {w : Work} {r : ℕ} {row : Row} (σ : AtWork M Sought w r row) {e : Activity} (a : ActivityOf (L M w) (H M w) row.terms e) where
+module _ {M : Model} {w : Work} {r : ℕ} {row : Row} (σ : AtWork M w r row) {e : Activity} (a : ActivityOf (L M w) (H M w) row.terms e) where
   side_mag_lem : (b : Float) → (T (is_finite b) → Is b σ.ok.b) → Mag (2 ^ 40) (side_mag row b)
   unfolding side_mag
   side_mag_lem b p =

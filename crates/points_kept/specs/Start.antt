@@ -18,12 +18,12 @@ use Rattle.tolerances.specs.Laws.{laws}
 use Rattle.definition.specs.Model.{Model, nnz, op_of, rhs_of, is_int, Row, with_alive, as_written}
 use Rattle.definition.specs.Work.{no_row, trivial}
 use Rattle.definition.specs.Begin.{Bounds, cross, bounds, Rows, false_row, rows_are, crossed, rounded_lower, rounded_upper, round_var, round_from, add_row, read_row, read_from}
-use Rattle.points_kept.specs.Statements.{PureInteger, Point}
+use Rattle.points_kept.specs.Statements.{PureInteger}
 use Rattle.points_kept.specs.Integers.{eq_parts}
 use Rattle.definition.specs.Choices.{both}
 use Rattle.definition.specs.Tests.{differ, last_or, test, taking, or, nor, if_true}
 use Rattle.points_kept.specs.WholeFloats.{finite, of_lt, of_nlt, tolerance}
-use Rattle.points_kept.specs.Invariant.{RowAt, NoPoint, Good, asks}
+use Rattle.points_kept.specs.Invariant.{RowAt, NoPoint, Good}
 use Rattle.points_kept.specs.Changes.{Sets, set_one}
 use Rattle.points_kept.specs.Written.{as_written_ok}
 use Rattle.points_kept.specs.Verdicts.{trivial_met, false_row_lem}
@@ -63,7 +63,7 @@ module _ (M : Model) (pure : PureInteger M) where
     pub hi : (v : ℕ) → v < length M.lower → Is (at hs v) (int (at M.upper v))
 
   abbrev pub RoundedB : Bounds → Type 0
-  RoundedB cross = NoPoint M (Point M)
+  RoundedB cross = NoPoint M
   RoundedB (bounds ls hs) = Rounded ls hs
 
   carry : {ls ls' : List Float} {v : ℕ} {y : Float} {z : ℕ → ℤ} → Sets v ls ls' y → Is y (z v) → ((j : ℕ) → j < length M.lower → Is (at ls j) (z j))
@@ -122,7 +122,7 @@ module _ (M : Model) (pure : PureInteger M) where
       pub row : (j : ℕ) → j < r → RowAt M ls hs j (get_or rows j no_row)
 
     abbrev pub ReadR : ℕ → Rows → Type 0
-    ReadR r (false_row n) = NoPoint M (Point M)
+    ReadR r (false_row n) = NoPoint M
     ReadR r (rows_are rows queue dirty drops) = Read r rows
 
     add_one : (r : ℕ) (rows : List Row) (y : Row) → Read r rows → RowAt M ls hs r y → Read (suc r) (rows ++ (y ∷ []))
@@ -164,7 +164,7 @@ module _ (M : Model) (pure : PureInteger M) where
         e n = omega arith
 
     -- THE INVARIANT HOLDS when all rows have been read
-    pub start_good : (rows : List Row) → Rounded ls hs → ((v : ℕ) → v < length M.lower → at M.upper v ⊀ at M.lower v) → Read (length M.rhs) rows → Good M (Point M) ls hs ls hs rows
+    pub start_good : (rows : List Row) → Rounded ls hs → ((v : ℕ) → v < length M.lower → at M.upper v ⊀ at M.lower v) → Read (length M.rhs) rows → Good M ls hs ls hs rows
     start_good rows r u g =
         record {
           wl_length = r.lo_length;
@@ -180,7 +180,6 @@ module _ (M : Model) (pure : PureInteger M) where
             order = omega (arith, of_nlt (pure.numbers.upper v h).whole (pure.numbers.lower v h).whole (u v h), eq_parts (r.lo v h).is, eq_parts (r.hi v h).is);
           };
           keeps = λ x p v h. (subst (λ (z : ℤ). z ⊑ x v) (sym (r.lo v h).is) (p.bounds v h).0, subst (λ (z : ℤ). x v ⊑ z) (sym (r.hi v h).is) (p.bounds v h).1);
-          asks = λ x p q h. asks M pure x p q h;
           shrinks = λ x k v h. (subst (λ (z : ℤ). z ⊑ x v) (r.lo v h).is (k v h).0, subst (λ (z : ℤ). x v ⊑ z) (r.hi v h).is (k v h).1);
           row = g.row;
         }

@@ -1,5 +1,5 @@
--- WHAT IS PROMISED of a model of whole numbers alone: with dual fixing off and no coefficient rewritten, the answer has exactly the model's points. Statements only;
--- `Theorem` proves them, and `Objective` says what is promised with dual fixing on. Points are signed whole numbers, compared exactly: no tolerance and no rounding enters.
+-- WHAT IS PROMISED of a model of whole numbers alone: where no coefficient is rewritten, the answer has exactly the model's points. Statements only;
+-- `Theorem` proves them. Points are signed whole numbers, compared exactly: no tolerance and no rounding enters.
 -- Of a float x (floats' `Points`): `Whole x` says that x is a whole number, `int x` is that number, and `x ≼ y` says that x <= y. Of signed whole numbers
 -- (floats' `Zed`), `a ⊑ b` says that a is at most b, and `A z` is z's magnitude. `Reading` proves that these mean what they say.
 use Rattle.std.specs.Prelude.{ℕ, zero, suc, ◌-◌, ◌≤◌, ◌<◌, ◌≡◌, ◌⊎◌, ◌↔◌, false, ℤ, pos, ◌+ℤ◌, ◌*ℤ◌, length, get_or, take, drop, Float}
@@ -42,9 +42,6 @@ pub record PureInteger (M : Model) : Type 0 where
   pub numbers : WholeNumbers M
 
 -- ---- the points: x gives each variable a signed whole number
-abbrev pub PointSet : Type 1
-PointSet = (ℕ → ℤ) → Type 0
-
 -- the sum of a list of terms
 unfoldable pub dot : (ℕ → ℤ) → List Term → ℤ
 dot x [] = pos 0

@@ -16,9 +16,9 @@ use Rattle.definition.specs.Refusal.{refusal}
 use Rattle.rows_kept.specs.Statements.{Fate, entries_of, occurs, count_below, no_entry}
 use Rattle.rows_kept.specs.Theorems as kept
 use Rattle.points_kept.specs.Statements.{WholeNumbers, Point, terms_of, MeetsReduced, WholeReduced, Exact}
-use Rattle.points_kept.specs.Objective.{WholeObjective, SameFeasible, SameLeast, BestKept}
+use Rattle.best_kept.specs.Objective.{WholeObjective, SameFeasible, SameLeast, BestKept}
 use Rattle.points_kept.specs.Theorem.{points_kept}
-use Rattle.points_kept.specs.BestKept.{best_kept}
+use Rattle.best_kept.specs.BestKept.{best_kept}
 use Rattle.points_kept.specs.ActivityEverywhere.{WholeBounds, answer_whole}
 use Rattle.definition.specs.Accepted.{Shaped, accepted_shaped}
 use Rattle.refuse.specs.Of.{model_of}
@@ -227,9 +227,15 @@ module _ {obj lower upper : List Float} {domain starts index : List ℕ} {coeff 
   pub waves_infeasible : (k : Counts) → answer_is z ≡ infeasible k → k.passes ≤ 30
   waves_infeasible k e = omega (arith, kept.waves_bounded_infeasible called k ((infeasible_exactly p k).0 e).1, kept.thirty)
 
-  -- DEMAND 3, infeasible: on a farm model with nothing rewritten there is no point; with dual fixing off, as 01 asks, and on, as 02's W13 asks
-  pub no_point : WholeNumbers called → (k : Counts) → answer_is z ≡ infeasible k → k.coeffsTightened ≡ 0 → (y : ℕ → ℤ) → Point called y → ⊥
-  no_point f k e =
+  -- DEMAND 3, infeasible: on a farm model with dual fixing off and nothing rewritten there is no point
+  pub no_point : WholeNumbers called → mode ≡ 1 → (k : Counts) → answer_is z ≡ infeasible k → k.coeffsTightened ≡ 0 → (y : ℕ → ℤ) → Point called y → ⊥
+  no_point f one k e =
+      let r = (infeasible_exactly p k).0 e in
+      subst (Exact called) r.1 (points_kept called (record { shape = accepted_shaped called (lengths b x) r.0; numbers = f }) one refl)
+
+  -- 02's W13: nor is there with dual fixing on
+  pub no_point_either_way : WholeNumbers called → (k : Counts) → answer_is z ≡ infeasible k → k.coeffsTightened ≡ 0 → (y : ℕ → ℤ) → Point called y → ⊥
+  no_point_either_way f k e =
       let r = (infeasible_exactly p k).0 e in
       subst (BestKept called) r.1 (best_kept called (record { shape = accepted_shaped called (lengths b x) r.0; numbers = f }) refl)
 

@@ -1,6 +1,5 @@
 // Reads one model file on standard input and prints whether its model is 01's farm model, for which the
-// promise about points is made, with a whole objective: `numbers whole`, or `numbers`, the condition that
-// fails and its place. 8 is the objective, asked last: a model that is told to fail it is a farm model.
+// promise about points is made: `numbers whole`, or `numbers`, the condition that fails and its place.
 #![tactic(auto)]
 
 use libc::STDOUT_FILENO;

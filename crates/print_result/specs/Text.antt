@@ -68,7 +68,7 @@ validate_line r = ascii "validate" ++ (number r ++ newline)
 unfoldable pub refused_line : ℕ → List ℕ
 refused_line n = ascii "refused" ++ (number n ++ newline)
 
--- whether a model is 01's farm model with a whole objective: the number of the condition that fails and its place, 0 where none does
+-- whether a model is 01's farm model: the number of the condition that fails and its place, 0 where none does
 unfoldable pub whole_line : List ℕ
 whole_line = ascii "numbers whole\n"
 

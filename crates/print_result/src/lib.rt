@@ -173,8 +173,8 @@ pub fn print_refusal(n: u8, out: &mut [u8]) -> Printed
     Printed::Bytes(m)
 }
 
-// Prints whether a model is 01's farm model with a whole objective: k is the number of the condition that
-// fails and i its place; k is 0 where none does.
+// Prints whether a model is 01's farm model: k is the number of the condition that fails and i its place;
+// k is 0 where none does.
 pub fn print_numbers(k: usize, i: usize, out: &mut [u8]) -> Printed
     ensures { outcome result out.new ≡ printed (numbers_line k i) out.old }
 {

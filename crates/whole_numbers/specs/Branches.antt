@@ -12,7 +12,7 @@ use Rattle.floats.specs.Points.{is_whole, Is, of_is}
 use Rattle.tolerances.specs.Tol.{at}
 use Rattle.definition.specs.Choices.{chosen, left}
 use Rattle.points_kept.specs.Statements.{HUNDREDTH}
-use Rattle.whole_numbers.specs.Fault.{first, whole_within, tolerable, domain_off, bounds_off, row_long, tolerance_off, mode_off, objective_off}
+use Rattle.whole_numbers.specs.Fault.{first, whole_within, tolerable, domain_off, bounds_off, row_long, tolerance_off, mode_off}
 use Rattle.whole_numbers.specs.Floats.{within_is, beyond}
 
 -- ---- what lies outside a list
@@ -90,16 +90,6 @@ module _ (limit : Float) (xs : List Float) (i : ℕ) (x : Float) (a : x ≡ at x
   pub number_fails : {p : Bool} → p ≡ is_whole x && le (abs x) limit → p ≡ false → beyond limit xs i ≡ true
   unfolding beyond
   number_fails e t = ap not (ap (λ (z : Float). is_whole z && le (abs z) limit) (sym a) ∙ sym e ∙ t)
-
--- ---- a variable's objective
-module _ (xs : List Float) (i : ℕ) (x : Float) (a : x ≡ at xs i) where
-  pub whole_ok : {p : Bool} → p ≡ is_whole x → p ≡ true → objective_off xs i ≡ false
-  unfolding objective_off
-  whole_ok e t = ap not (ap is_whole (sym a) ∙ sym e ∙ t)
-
-  pub fraction_fails : {p : Bool} → p ≡ is_whole x → p ≡ false → objective_off xs i ≡ true
-  unfolding objective_off
-  fraction_fails e t = ap not (ap is_whole (sym a) ∙ sym e ∙ t)
 
 -- ---- row lengths
 module _ (ss : List ℕ) (r : ℕ) where

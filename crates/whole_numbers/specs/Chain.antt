@@ -1,14 +1,14 @@
 -- The conditions one after the other: where one fails, that is the fault; where it holds, the fault is that of the conditions left.
-use Rattle.std.specs.Prelude.{ℕ, ◌≤◌, ◌<◌, ◌≡◌, Bool, ltb, length, drop}
+use Rattle.std.specs.Prelude.{ℕ, ◌≤◌, ◌<◌, ◌≡◌, refl, Bool, ltb, length, drop}
 use Rattle.std.proofs.Common.{arith, ◌∙◌, le-ltb, lt-ltb}
 use Rattle.std.proofs.Math.Path.{sym, ap}
 use Rattle.std.proofs.Math.Bool.{true, false}
-use mathlib.Core.List.{List, [], ◌∷◌, ◌++◌}
+use mathlib.Core.List.{List, [], ◌∷◌}
 use Rattle.std.proofs.Math.Option.{none, some}
 use Rattle.floats.specs.Num.{choose}
 use Rattle.definition.specs.Model.{Model}
 use Rattle.definition.specs.Choices.{chosen, left}
-use Rattle.whole_numbers.specs.Fault.{first, domain_off, bounds_off, number_off, row_long, tolerance_off, mode_off, objective_off, Condition, conditions, objective, earliest_fault, told}
+use Rattle.whole_numbers.specs.Fault.{first, domain_off, bounds_off, number_off, row_long, tolerance_off, mode_off, Condition, conditions, earliest_fault, fault}
 use Rattle.whole_numbers.specs.Floats.{beyond, beyond_is}
 use Rattle.whole_numbers.specs.Branches.{COEFF, RHS, coeff_is, rhs_is}
 
@@ -27,20 +27,20 @@ module _ (c : Condition) (cs : List Condition) {i : ℕ} (e : i ≡ first c.fail
 
 -- the first k conditions hold: the fault is that of the others
 abbrev pub Left : Model → ℕ → Type 0
-Left M k = told M ≡ earliest_fault (drop k (conditions M ++ (objective M ∷ [])))
+Left M k = fault M ≡ earliest_fault (drop k (conditions M))
 
 module _ (M : Model) {i : ℕ} where
   module _ (e : i ≡ first (domain_off M.domain) (length M.lower) 0) where
-    pub domain_found : i < length M.lower → some (1, i) ≡ told M
-    unfolding told conditions
+    pub domain_found : i < length M.lower → some (1, i) ≡ fault M
+    unfolding fault conditions
     domain_found l = sym (here _ _ e l)
 
     pub domain_on : length M.lower ≤ i → Left M 1
-    unfolding told conditions
+    unfolding fault conditions
     domain_on l = past _ _ e l
 
   module _ (e : i ≡ first (bounds_off M.lower M.upper) (length M.lower) 0) (s : Left M 1) where
-    pub bounds_found : i < length M.lower → some (2, i) ≡ told M
+    pub bounds_found : i < length M.lower → some (2, i) ≡ fault M
     unfolding conditions
     bounds_found l = sym (s ∙ here _ _ e l)
 
@@ -52,7 +52,7 @@ module _ (M : Model) {i : ℕ} where
     coeff_first : i ≡ first (number_off 32768 M.coeff) (length M.index) 0
     coeff_first = e ∙ beyond_is COEFF 32768 coeff_is M.coeff (length M.index)
 
-    pub coeff_found : i < length M.index → some (3, i) ≡ told M
+    pub coeff_found : i < length M.index → some (3, i) ≡ fault M
     unfolding conditions
     coeff_found l = sym (s ∙ here _ _ coeff_first l)
 
@@ -64,7 +64,7 @@ module _ (M : Model) {i : ℕ} where
     rhs_first : i ≡ first (number_off 1099511627776 M.rhs) (length M.rhs) 0
     rhs_first = e ∙ beyond_is RHS 1099511627776 rhs_is M.rhs (length M.rhs)
 
-    pub rhs_found : i < length M.rhs → some (4, i) ≡ told M
+    pub rhs_found : i < length M.rhs → some (4, i) ≡ fault M
     unfolding conditions
     rhs_found l = sym (s ∙ here _ _ rhs_first l)
 
@@ -73,7 +73,7 @@ module _ (M : Model) {i : ℕ} where
     rhs_on l = s ∙ past _ _ rhs_first l
 
   module _ (e : i ≡ first (row_long M.starts) (length M.rhs) 0) (s : Left M 4) where
-    pub long_found : i < length M.rhs → some (5, i) ≡ told M
+    pub long_found : i < length M.rhs → some (5, i) ≡ fault M
     unfolding conditions
     long_found l = sym (s ∙ here _ _ e l)
 
@@ -82,7 +82,7 @@ module _ (M : Model) {i : ℕ} where
     long_on l = s ∙ past _ _ e l
 
   module _ (e : i ≡ first (tolerance_off M.feas M.int_tol) 2 0) (s : Left M 5) where
-    pub tolerance_found : i < 2 → some (6, i) ≡ told M
+    pub tolerance_found : i < 2 → some (6, i) ≡ fault M
     unfolding conditions
     tolerance_found l = sym (s ∙ here _ _ e l)
 
@@ -95,19 +95,10 @@ module _ (M : Model) {b : Bool} (e : b ≡ mode_off M.mode 0) (s : Left M 6) whe
   unfolding first
   mode_place c q = ap (λ (d : Bool). choose d 0 1) (sym e ∙ q)
 
-  pub mode_found : b ≡ true → some (7, 0) ≡ told M
+  pub mode_found : b ≡ true → some (7, 0) ≡ fault M
   unfolding conditions choose
-  mode_found t = sym (s ∙ here _ _ (sym (mode_place true t)) (omega arith))
+  mode_found t = sym (s ∙ here _ [] (sym (mode_place true t)) (omega arith))
 
-  pub mode_on : b ≡ false → Left M 7
-  unfolding conditions choose
-  mode_on t = s ∙ past _ _ (sym (mode_place false t)) (omega arith)
-
-module _ (M : Model) {i : ℕ} (e : i ≡ first (objective_off M.obj) (length M.lower) 0) (s : Left M 7) where
-  pub objective_found : i < length M.lower → some (8, i) ≡ told M
-  unfolding conditions objective
-  objective_found l = sym (s ∙ here _ [] e l)
-
-  pub objective_on : length M.lower ≤ i → none ≡ told M
-  unfolding conditions objective earliest_fault
-  objective_on l = sym (s ∙ past _ [] e l)
+  pub mode_on : b ≡ false → none ≡ fault M
+  unfolding conditions earliest_fault choose
+  mode_on t = sym (s ∙ past _ [] (sym (mode_place false t)) (omega arith))

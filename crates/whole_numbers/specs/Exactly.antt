@@ -1,29 +1,23 @@
--- NO CONDITION FAILS EXACTLY WHERE THE MODEL IS 01's FARM MODEL: `whole_exactly`; and nothing is told exactly where, besides, its objective is whole:
--- `told_exactly`. What is told of 1 to 7 is the fault of 01's conditions (`told_fault`); where 8 is told, the model is a farm model (`objective_told`).
--- And a fault that is found is one: its condition fails at its place, nowhere before it, and every condition before it holds: that is the definition's
--- own text (`earliest_fault`, `first`).
+-- NO CONDITION FAILS EXACTLY WHERE THE MODEL IS 01's FARM MODEL: `whole_exactly`. And a fault that is found is one: its condition fails at its place,
+-- nowhere before it, and every condition before it holds: that is the definition's own text (`earliest_fault`, `first`).
 use Prim.Native.Nat.{ℕ, zero, suc, ◌≤◌, ◌<◌}
-use Rattle.std.proofs.Common.{arith, sym, ap, subst, ◌∙◌, inl, inr, eqb→eq, leb→le, le→leb}
-use Rattle.std.specs.Prelude.{◌≡◌, ◌⊎◌, ◌↔◌, Bool, true, false, not, ◌&&◌, ◌||◌, List, [], ◌∷◌, ◌++◌, T, ltb, leb, get_or, Float}
-use Rattle.std.proofs.Math.Path.{refl}
-use Rattle.std.proofs.Math.Option.{Option, none, some, or_else, none-ne-some, some-injective}
-use mathlib.Mathlib.Data.Option.Basic.{or_else-eq-none, or_else-eq-some}
+use Rattle.std.proofs.Common.{arith, sym, subst, ◌∙◌, inl, inr, eqb→eq, leb→le, le→leb}
+use Rattle.std.specs.Prelude.{◌≡◌, refl, ◌⊎◌, ◌↔◌, Bool, true, false, not, ◌&&◌, ◌||◌, List, [], ◌∷◌, T, ltb, leb, get_or, Float}
+use Rattle.std.proofs.Math.Option.{none}
 use Rattle.std.proofs.Math.Dec.{eqb, eqb_refl}
 use Rattle.std.specs.Float.{binary64}
 use Rattle.std.specs.Float.Ieee.{fits, le}
 use borrow.Author.Tests.{ltb-false, le-ltb}
 use Rattle.floats.specs.Num.{0f}
 use Rattle.floats.specs.Zed.{A}
-use Rattle.floats.specs.Points.{int, is_whole, Whole, Bounded}
+use Rattle.floats.specs.Points.{int, is_whole, Bounded}
 use Rattle.tolerances.specs.Tol.{at}
 use Rattle.definition.specs.Model.{Model, from, upto, nnz, rhs_of}
 use Rattle.definition.specs.Choices.{chosen, left, not_not}
 use Rattle.definition.specs.Tests.{or, or_intro, and, all_true}
 use Rattle.rows_kept.specs.Statements.{All, no_one, each}
 use Rattle.points_kept.specs.Statements.{HUNDREDTH, Tolerance, WholeNumbers}
-use Rattle.points_kept.specs.Objective.{WholeObjective}
-use Rattle.whole_numbers.specs.Fault.{first, whole_within, tolerable, domain_off, bounds_off, number_off, row_long, tolerance_off, mode_off, objective_off}
-use Rattle.whole_numbers.specs.Fault.{Condition, conditions, objective, earliest_fault, fault, told}
+use Rattle.whole_numbers.specs.Fault.{first, whole_within, tolerable, domain_off, bounds_off, number_off, row_long, tolerance_off, mode_off, Condition, conditions, earliest_fault, fault}
 use Rattle.whole_numbers.specs.First.{none_pass, past_end}
 
 -- a condition holds: its test fails it nowhere
@@ -48,27 +42,6 @@ no_fault [] no_one = refl
 no_fault (c ∷ cs) (each h hs) =
     let e = past_end c.fails c.places 0 (λ i a b. h i (omega arith)) in
     left _ _ (le-ltb (first c.fails c.places 0) c.places (omega (arith, e))) ∙ no_fault cs hs
-
--- the fault of two lists, one after the other
-after : (cs ds : List Condition) → earliest_fault (cs ++ ds) ≡ or_else (earliest_fault cs) (earliest_fault ds)
-unfolding earliest_fault or_else
-after [] ds = refl
-after (c ∷ cs) ds = go (ltb (first c.fails c.places 0) c.places) refl (after cs ds)
-  where
-    go : (b : Bool) → ltb (first c.fails c.places 0) c.places ≡ b → earliest_fault (cs ++ ds) ≡ or_else (earliest_fault cs) (earliest_fault ds)
-        → earliest_fault ((c ∷ cs) ++ ds) ≡ or_else (earliest_fault (c ∷ cs)) (earliest_fault ds)
-    go true q later = chosen _ _ q ∙ sym (ap (λ (o : Option (ℕ × ℕ)). or_else o (earliest_fault ds)) (chosen _ (earliest_fault cs) q))
-    go false q later = left _ _ q ∙ later ∙ sym (ap (λ (o : Option (ℕ × ℕ)). or_else o (earliest_fault ds)) (left _ (earliest_fault cs) q))
-
--- a fault's number is that of one of the conditions
-numbered : (P : ℕ → Type 0) (cs : List Condition) → All (λ (c : Condition). P c.number) cs → (f : ℕ × ℕ) → earliest_fault cs ≡ some f → P f.0
-unfolding earliest_fault
-numbered P [] no_one f e = absurd (none-ne-some _ e)
-numbered P (c ∷ cs) (each p ps) f e = go (ltb (first c.fails c.places 0) c.places) refl (numbered P cs ps f)
-  where
-    go : (b : Bool) → ltb (first c.fails c.places 0) c.places ≡ b → (earliest_fault cs ≡ some f → P f.0) → P f.0
-    go true q later = subst (λ (g : ℕ × ℕ). P g.0) (some-injective _ _ (sym (chosen _ _ q) ∙ e)) p
-    go false q later = later (sym (left _ _ q) ∙ e)
 
 -- ---- one condition
 passed : (b : Bool) → not b ≡ false → T b
@@ -136,15 +109,7 @@ number_out : (k : ℕ) (xs : List Float) (i : ℕ) → Bounded k (at xs i) → n
 unfolding number_off
 number_out k xs i b = fails_not (whole_within k (at xs i)) (within k (at xs i) b)
 
-objective_in : (obj : List Float) (v : ℕ) → objective_off obj v ≡ false → Whole (at obj v)
-unfolding objective_off
-objective_in obj v e = record { whole = passed (is_whole (at obj v)) e }
-
-objective_out : (obj : List Float) (v : ℕ) → Whole (at obj v) → objective_off obj v ≡ false
-unfolding objective_off
-objective_out obj v w = fails_not (is_whole (at obj v)) w.whole
-
--- ---- THE THEOREMS
+-- ---- THE THEOREM
 module _ (M : Model) where
   long_in : (r : ℕ) → row_long M.starts r ≡ false → nnz M r ≤ 256
   unfolding row_long nnz from upto
@@ -188,45 +153,3 @@ module _ (M : Model) where
   pub whole_exactly : (fault M ≡ none) ↔ WholeNumbers M
   unfolding fault
   whole_exactly = (λ e. whole (all_hold (conditions M) e), λ w. no_fault (conditions M) (holds w))
-
-  -- ---- and the objective, after them
-  whole_objective : All Holds (objective M ∷ []) → WholeObjective M
-  unfolding objective
-  whole_objective (each o no_one) = λ v h. objective_in M.obj v (o v h)
-
-  objective_holds : WholeObjective M → All Holds (objective M ∷ [])
-  unfolding objective
-  objective_holds w = each (λ v h. objective_out M.obj v (w v h)) no_one
-
-  told_is : told M ≡ or_else (fault M) (earliest_fault (objective M ∷ []))
-  unfolding told fault
-  told_is = after (conditions M) (objective M ∷ [])
-
-  pub told_exactly : (told M ≡ none) ↔ (WholeNumbers M × WholeObjective M)
-  told_exactly =
-      let both = or_else-eq-none (fault M) (earliest_fault (objective M ∷ [])) in (
-        (λ e. let n = both.0 (sym told_is ∙ e) in (whole_exactly.0 n.0, whole_objective (all_hold (objective M ∷ []) n.1))),
-        λ w. told_is ∙ both.1 (whole_exactly.1 w.0, no_fault (objective M ∷ []) (objective_holds w.1)),
-      )
-
-  -- ---- what is told by number
-  up_to_seven : (f : ℕ × ℕ) → fault M ≡ some f → f.0 ≤ 7
-  unfolding fault conditions
-  up_to_seven f e =
-      numbered (λ (n : ℕ). n ≤ 7) (conditions M)
-      (each (omega arith) (each (omega arith) (each (omega arith) (each (omega arith) (each (omega arith) (each (omega arith) (each (omega arith) no_one))))))) f e
-
-  eight : (f : ℕ × ℕ) → earliest_fault (objective M ∷ []) ≡ some f → f.0 ≡ 8
-  unfolding objective
-  eight f e = numbered (λ (n : ℕ). n ≡ 8) (objective M ∷ []) (each refl no_one) f e
-
-  pub told_fault : (k i : ℕ) → ((told M ≡ some (k, i)) × (k ≤ 7)) ↔ (fault M ≡ some (k, i))
-  told_fault k i =
-      let one = or_else-eq-some (fault M) (earliest_fault (objective M ∷ [])) (k, i) in (
-        (λ p. elim (one.0 (sym told_is ∙ p.0)) [ inl e ↦ e | inr e ↦ absurd (omega (arith, p.1, eight (k, i) e.1)) ]),
-        λ e. (told_is ∙ one.1 (inl e), up_to_seven (k, i) e),
-      )
-
-  pub objective_told : (v : ℕ) → told M ≡ some (8, v) → WholeNumbers M
-  objective_told v t =
-      elim ((or_else-eq-some (fault M) (earliest_fault (objective M ∷ [])) (8, v)).0 (sym told_is ∙ t)) [ inl e ↦ absurd (omega (arith, up_to_seven (8, v) e)) | inr e ↦ whole_exactly.0 e.0 ]

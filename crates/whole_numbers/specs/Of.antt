@@ -7,10 +7,10 @@ use Rattle.whole_numbers.specs.declared.Numbers.{Numbers}
 use Rattle.whole_numbers.specs.declared.Numbers.TheVariants.{Whole, Off}
 
 -- the model of these lists: the test looks at nothing else of a model
-abbrev pub numbers_of : List Float → List Float → List Float → List ℕ → List ℕ → List ℕ → List Float → List Float → ℕ → Float → Float → Model
-numbers_of obj lower upper domain starts index coeff rhs mode feas int_tol =
+abbrev pub numbers_of : List Float → List Float → List ℕ → List ℕ → List ℕ → List Float → List Float → ℕ → Float → Float → Model
+numbers_of lower upper domain starts index coeff rhs mode feas int_tol =
     record {
-      obj = obj;
+      obj = [];
       lower = lower;
       upper = upper;
       domain = domain;

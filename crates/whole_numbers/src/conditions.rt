@@ -1,12 +1,11 @@
-// 01's conditions of a farm model, and the objective's, one after the other: each looks for the first
-// place that fails it.
+// 01's conditions of a farm model, one after the other: each looks for the first place that fails it.
 // What lies outside a slice reads as the definition's lists do, so nothing is asked of the caller.
 ghost use Rattle.std.specs.Prelude.{◌≡◌, ◌&&◌, get_or};
 ghost use Rattle.std.specs.Float.Ieee.{le};
 ghost use Rattle.floats.specs.Num.{abs};
 ghost use Rattle.floats.specs.Points.{is_whole};
 ghost use Rattle.tolerances.specs.Tol.{at};
-ghost use Rattle.whole_numbers.specs.Fault.{first, tolerable, domain_off, bounds_off, row_long, tolerance_off, mode_off, objective_off};
+ghost use Rattle.whole_numbers.specs.Fault.{first, tolerable, domain_off, bounds_off, row_long, tolerance_off, mode_off};
 ghost use Rattle.whole_numbers.specs.Floats.{beyond};
 
 use floats::{absolute, floor, is_finite};
@@ -165,19 +164,4 @@ pub(crate) fn mode_off(mode: u8) -> bool
         return false;
     }
     mode != 2
-}
-
-// The first of n numbers that is not whole.
-pub(crate) fn first_fraction(xs: &[f64], n: usize) -> usize
-    ensures { result ≡ first (objective_off xs.now) n 0 }
-{
-    let mut i = 0;
-    while i < n {
-        if is_whole(float_at(xs, i)) {
-            i += 1;
-        } else {
-            return i;
-        }
-    }
-    i
 }

@@ -1,18 +1,17 @@
-// Whether a model is 01's farm model, for which the promise about points is made, and its objective
-// whole, which the promise about the least objective asks beside it; where not, which condition fails
-// first, and where. Added by the port. The contract is one equation with specs/Fault, and specs/Exactly
-// says what an answer means.
+// Whether a model is 01's farm model, for which the promise about points is made; where it is not,
+// which of 01's conditions fails first, and where. Added by the port. The contract is one equation
+// with specs/Fault, and specs/Exactly says what an answer of no fault means.
 #![tactic(auto)]
 
 mod conditions;
 
 ghost use Rattle.std.specs.Prelude.{◌≡◌};
-ghost use Rattle.whole_numbers.specs.Fault.{told};
+ghost use Rattle.whole_numbers.specs.Fault.{fault};
 ghost use Rattle.whole_numbers.specs.Of.{numbers_of, numbers_is};
 
 // The condition that fails (1 domains, 2 bounds, 3 coefficients, 4 right sides, 5 row lengths,
-// 6 tolerances, 7 mode, 8 objective), and its first place: a variable, a term, a row; for 6, 0 is
-// feasibility and 1 int_tol. 8 is asked last: a model that is told to fail it is a farm model.
+// 6 tolerances, 7 mode), and its first place: a variable, a term, a row; for 6, 0 is feasibility and
+// 1 int_tol.
 #[derive(Clone, Copy)]
 pub struct Fault {
     pub number: u8,
@@ -25,9 +24,8 @@ pub enum Numbers {
     Off(Fault),
 }
 
-// = told, of the model that these slices are.
+// = fault, of the model that these slices are.
 pub fn whole_numbers(
-    obj: &[f64],
     lower: &[f64],
     upper: &[f64],
     domain: &[u8],
@@ -39,7 +37,7 @@ pub fn whole_numbers(
     feas: f64,
     int_tol: f64,
 ) -> Numbers
-    ensures { numbers_is result ≡ told (numbers_of obj.now lower.now upper.now domain.now starts.now
+    ensures { numbers_is result ≡ fault (numbers_of lower.now upper.now domain.now starts.now
         index.now coeff.now rhs.now mode feas int_tol) }
 {
     let vars = lower.len();
@@ -91,13 +89,6 @@ pub fn whole_numbers(
         return Numbers::Off(Fault {
             number: 7,
             place: 0,
-        });
-    }
-    let o = conditions::first_fraction(obj, vars);
-    if o < vars {
-        return Numbers::Off(Fault {
-            number: 8,
-            place: o,
         });
     }
     Numbers::Whole

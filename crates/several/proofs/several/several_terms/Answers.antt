@@ -19,7 +19,7 @@ pub force_row-requires : goal.force_row-requires
 force_row-requires c = record { r_lt_rows = c.requires.r_lt_rows; ready = ready_under moves_marks c.requires.ready }
 
 pub force_row-requires-in-ForceMax : goal.force_row-requires-in-ForceMax
-force_row-requires-in-ForceMax c = (c.requires.r_lt_rows, ready_under moves_marks c.requires.ready)
+force_row-requires-in-ForceMax c = record { r_lt_rows = c.requires.r_lt_rows; ready = ready_under moves_marks c.requires.ready }
 
 pub drop_row-requires : goal.drop_row-requires
 drop_row-requires c = (c.requires.r_lt_rows.0, c.requires.r_lt_rows.2)
