@@ -63,7 +63,7 @@ among_without u {all} h (among∷ {v} {vs} e a) = go (eqb v u) refl h (λ y. amo
 
 pub once_fits : {all : List Term} {vs : List ℕ} → Once vs → Among all vs → length vs ≤ length all
 once_fits once[] among[] = omega arith
-once_fits {all} (once∷ {v} h o) (among∷ e a) = let z = once_fits o (among_without v h a) in omega (arith, z, without_shorter v all e)
+once_fits {all} (once∷ {v} h o) (among∷ e a) = let z = once_fits {all = without v all} o (among_without v h a) in omega (arith, z, without_shorter v all e)
 
 -- ---- a row's terms
 -- ---- its rewritten binaries

@@ -5,8 +5,8 @@ use Rattle.std.proofs.Math.Path.{refl, ap}
 use Rattle.std.proofs.Math.Option.{Option, none, some}
 use Rattle.std.specs.Float.{nan}
 use Rattle.std.specs.Float.Ieee.{eq}
-use Rattle.floats.specs.Num.{choose, ◌⊕◌, ◌⊖◌, 0f, abs, maxf}
-use Rattle.tolerances.specs.Tol.{Term}
+use Rattle.floats.specs.Num.{choose, ◌⊕◌, ◌⊖◌, ◌⊗◌, 0f, abs, maxf}
+use Rattle.tolerances.specs.Tol.{Term, at}
 use Rattle.definition.specs.Model.{Model, Row, Binding, with_binding, rhs_mag, coeff_of}
 use Rattle.definition.specs.Work.{Work, with_row, no_term, has}
 use Rattle.definition.specs.Folds.{fixed_besides_from, fixed_besides, rewrite_room}
@@ -40,7 +40,7 @@ sum_bound o x s (v ∷ vs) = sum_bound o x (s ⊕ abs (coeff_of x v)) vs
 besides_from : (r : ℕ) (y : Row) (w : Work) (bs : List ℕ) (s : Float) (ts : List Term) → fixed_besides_from (with_row r y w) bs s ts ≡ fixed_besides_from w bs s ts
 unfolding fixed_besides_from
 besides_from r y w bs s [] = refl
-besides_from r y w bs s (t ∷ ts) = besides_from r y w bs _ ts
+besides_from r y w bs s (t ∷ ts) = besides_from r y w bs (choose (has t.var bs) s (s ⊕ abs (t.coeff ⊗ at w.elo t.var))) ts
 
 pub besides_row : (r : ℕ) (y : Row) (w : Work) (x : Row) (bs : List ℕ) → fixed_besides (with_row r y w) x bs ≡ fixed_besides w x bs
 unfolding fixed_besides
