@@ -108,6 +108,7 @@ module _ (ss : List ℕ) (r : ℕ) where
 -- ---- tolerances and the mode
 is_true : (b : Bool) → T b → b ≡ true
 is_true true t = refl
+is_true false t = elim t [ ]
 
 hundredth : of_bits binary64 0x3f847ae147ae147b ≡ HUNDREDTH
 hundredth = unfold of_bits round in refl

@@ -11,10 +11,7 @@ pub tighten_binary_coeffs-tightened-requires : goal.tighten_binary_coeffs-tighte
 tighten_binary_coeffs-tightened-requires c = search (ready_under, running_tightening)
 
 pub dual_fix-fixed-requires : goal.dual_fix-fixed-requires
-dual_fix-fixed-requires c = (
-  search rules,
-  ready_dual c.if-mode-eq0.false c.tighten_binary_coeffs-tightened.ensures c.requires.ready,
-)
+dual_fix-fixed-requires c = record { holds_f = search rules; ready = ready_dual c.if-mode-eq0.false c.tighten_binary_coeffs-tightened.ensures c.requires.ready }
 
 pub returns-then-tightened : goal.returns-then-tightened
 returns-then-tightened c = search after_tightened

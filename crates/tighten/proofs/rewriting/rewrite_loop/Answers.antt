@@ -14,7 +14,7 @@ pub loop-i-init : goal.loop-i-init
 loop-i-init c = search at_start
 
 pub rewrite_step-x-requires : goal.rewrite_step-x-requires
-rewrite_step-x-requires c = ((search rules, omega arith, omega arith, search rules, search rules, search rules), search rules)
+rewrite_step-x-requires c = record { r_lt_rows = (search rules, omega arith, omega arith, search rules, search rules, search rules); ready = search rules }
 
 pub returns-then-x : goal.returns-then-x
 returns-then-x c = at_back c.requires.r_lt_rows.0 c.loop-i.invariant.2 c.loop-i-test.true c.rewrite_step-x.ensures

@@ -10,10 +10,7 @@ pub tighten_form-requires : goal.tighten_form-requires
 tighten_form-requires c = record { r_lt_rows = (search rules, search rules, omega arith, looked_live _ c.put_coeff_dirty.ensures c.requires.ready c.requires.r_lt_rows.3); ready = looked_ready _ c.put_coeff_dirty.ensures c.requires.ready }
 
 pub tighten_form-requires-in-Ge : goal.tighten_form-requires-in-Ge
-tighten_form-requires-in-Ge c = (
-  (search rules, search rules, omega arith, looked_live _ c.put_coeff_dirty.ensures c.requires.ready c.requires.r_lt_rows.3),
-  looked_ready _ c.put_coeff_dirty.ensures c.requires.ready,
-)
+tighten_form-requires-in-Ge c = record { r_lt_rows = (search rules, search rules, omega arith, looked_live _ c.put_coeff_dirty.ensures c.requires.ready c.requires.r_lt_rows.3); ready = looked_ready _ c.put_coeff_dirty.ensures c.requires.ready }
 
 pub returns-in-Le : goal.returns-in-Le
 returns-in-Le c = alive_le _ c.put_coeff_dirty.ensures _ c.requires.r_lt_rows.3 c.limits-l.ensures

@@ -7,7 +7,7 @@ use borrow.Author.Rules.{rules}
 use Rattle.tighten.proofs.rows.tighten_form.Goals as goal
 
 pub eligible-n-requires : goal.eligible-n-requires
-eligible-n-requires c = (search rules, search (ready_under, tightening_binaries))
+eligible-n-requires c = record { r_lt_rows = search rules; reads_limits = search (ready_under, tightening_binaries); ready = search (ready_under, tightening_binaries) }
 
 pub get_len-len-requires : goal.get_len-len-requires
 get_len-len-requires c = search rules

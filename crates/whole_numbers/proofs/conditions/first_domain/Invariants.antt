@@ -1,0 +1,12 @@
+-- `first_domain`: finds the first place where its test holds. The invariant: what is left finds what the whole finds.
+use Prim.Native.Nat.{◌-◌}
+use Rattle.whole_numbers.specs.Fault.{domain_off}
+use Rattle.whole_numbers.specs.First.{Passed, start, turn_by, found_by, end}
+use borrow.Author.Rules.{rules}
+use Rattle.whole_numbers.proofs.conditions.first_domain.Given as goal
+
+abbrev pub invariant-loop-v : goal.invariant-loop-v
+invariant-loop-v l = Passed (domain_off l.domain) l.vars l.v
+
+abbrev pub decreases-loop-v : goal.decreases-loop-v
+decreases-loop-v l = l.vars - l.v
