@@ -121,7 +121,7 @@ module _ (M : Model) {n k : ℕ} where
   pub fix_all_lem : {b c : ℕ} (minCorner : Bool) (w0 : Work) (ts : List Term) (w : Work) → b + length ts ≤ c → Tallied n k b w → Tallied n k c (fix_all M minCorner w0 ts w)
   unfolding fix_all
   fix_all_lem minCorner w0 [] w h p = more (omega arith) p
-  fix_all_lem minCorner w0 (t ∷ ts) w h p = fix_all_lem minCorner w0 ts _ (omega arith) (fix_one t.var _ w p)
+  fix_all_lem {b = b} minCorner w0 (t ∷ ts) w h p = fix_all_lem {b = suc b} minCorner w0 ts _ (omega arith) (fix_one t.var _ w p)
 
   -- ---- the dual step: one a variable
   dual_var_lem : {b : ℕ} (dec inc : List Bool) (v : ℕ) (w : Work) (changed : Bool) → Tallied n k b w → Tallied n k (suc b) (dual_var M dec inc v w changed).0
@@ -134,7 +134,7 @@ module _ (M : Model) {n k : ℕ} where
   dual_from_lem : {b c : ℕ} (m : ℕ) (dec inc : List Bool) (v : ℕ) (w : Work) (changed : Bool) → b + m ≤ c → Tallied n k b w → Tallied n k c (dual_from M m dec inc v w changed).0
   unfolding dual_from
   dual_from_lem zero dec inc v w changed h p = more (omega arith) p
-  dual_from_lem (suc m) dec inc v w changed h p = dual_from_lem m dec inc (suc v) _ _ (omega arith) (dual_var_lem dec inc v w changed p)
+  dual_from_lem {b = b} (suc m) dec inc v w changed h p = dual_from_lem {b = suc b} m dec inc (suc v) _ _ (omega arith) (dual_var_lem dec inc v w changed p)
 
   pub dual_step_lem : {b c : ℕ} (w : Work) → b + length M.lower ≤ c → Tallied n k b w → Tallied n k c (dual_step M w).0
   unfolding dual_step dual_fix

@@ -32,7 +32,7 @@ module _ (M : Model) {n k : ℕ} where
   rewrite_all : {b c : ℕ} (m : ℕ) (f : Form) (nz : Float) (r i : ℕ) (s : Rewriting) → b + m ≤ c → Tallied n k b s.work → Tallied n k c (rewrite_loop M m f nz r i s).work
   unfolding rewrite_loop
   rewrite_all zero f nz r i s h p = more (omega arith) p
-  rewrite_all (suc m) f nz r i s h p = rewrite_all m f nz r (suc i) _ (omega arith) (rewrite_one f nz r i s p)
+  rewrite_all {b = b} (suc m) f nz r i s h p = rewrite_all {b = suc b} m f nz r (suc i) _ (omega arith) (rewrite_one f nz r i s p)
 
 module _ (M : Model) (A : AllShort M) {n k : ℕ} where
   form_all : {b : ℕ} (f : Form) (r : ℕ) (row : Row) (w : Work) (changed : Bool) → form_of row ≡ f → Sided f → Short row → Tallied n k b w → Tallied n k (b + 65536) (tighten_form M f r row w changed).0
@@ -59,7 +59,7 @@ module _ (M : Model) (A : AllShort M) {n k : ℕ} where
   from_all : {b c : ℕ} (m r : ℕ) (w : Work) (changed : Bool) → b + m * 65536 ≤ c → Tallied n k b w → Tallied n k c (tighten_from M m r w changed).0
   unfolding tighten_from
   from_all zero r w changed h p = more (omega arith) p
-  from_all (suc m) r w changed h p = from_all m (suc r) _ _ (omega arith) (row_all r w changed p)
+  from_all {b = b} (suc m) r w changed h p = from_all {b = b + 65536} m (suc r) _ _ (omega arith) (row_all r w changed p)
 
   pub tighten_all : {b c : ℕ} (w : Work) → b + n * 65536 ≤ c → Tallied n k b w → Tallied n k c (tighten_binary_coeffs M w).0
   unfolding tighten_binary_coeffs

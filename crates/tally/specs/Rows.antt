@@ -96,7 +96,7 @@ module _ (M : Model) (A : AllShort M) {n : ℕ} where
   unfolding wave_rows
   rows_all [] w h p = went (more (omega arith) (fewer (omega arith) p))
   rows_all {k} {b} (r ∷ rs) w h p =
-      then (row_all {k = k + length rs} r w (fewer (omega arith) p)) (λ x q. more (omega arith) (fewer (omega arith) q)) (λ x q. rows_all rs x (omega arith) q)
+      then (row_all {k = k + length rs} r w (fewer (omega arith) p)) (λ x q. more (omega arith) (fewer (omega arith) q)) (λ x q. rows_all {b = b + per_row} rs x (omega arith) q)
 
   wave_all : {b : ℕ} → n ≤ 8192 → (w : Work) → Tallied n 0 b w → Each (Tallied n 0 (b + per_wave)) (wave M w)
   unfolding wave
@@ -107,4 +107,4 @@ module _ (M : Model) (A : AllShort M) {n : ℕ} where
   waves_all l zero w h p = went (more (omega arith) p)
   waves_all {b} {c} l (suc m) w h p =
       both (Each (Tallied n 0 c)) _ (went (more (omega arith) p))
-      (then (wave_all l w p) (λ x q. more (omega arith) q) (λ x q. waves_all l m x (omega arith) q))
+      (then (wave_all l w p) (λ x q. more (omega arith) q) (λ x q. waves_all {b = b + per_wave} l m x (omega arith) q))

@@ -111,7 +111,7 @@ module _ (M : Model) (A : AllShort M) {n : ℕ} (l : n ≤ 8192) (v : length M.l
   rounds_all zero w h p = went (more (omega arith) p)
   rounds_all {b} {c} (suc m) w h p =
       then (waves_all M A {c = b + 30 * per_wave} l (max_waves M.params - w.counts.passes) w (omega arith) p) (λ x q. more (omega arith) q)
-      (λ x q. both (Each (Tallied n 0 c)) _ (rounds_all m _ (omega arith) (steps_all x q)) (went (more (omega arith) (steps_all x q))))
+      (λ x q. both (Each (Tallied n 0 c)) _ (rounds_all {b = b + 30 * per_wave + per_steps} m _ (omega arith) (steps_all x q)) (went (more (omega arith) (steps_all x q))))
 
 -- ---- rows out
 data OutAtMost (b : ℕ) : Final → Type 0 where
@@ -137,7 +137,7 @@ module _ (M : Model) where
   unfolding out_from
   out_from_lem zero r (fails k) h (failing p) = failing (at_most (omega arith) p)
   out_from_lem zero r (final w o) h (ending p) = ending (at_most (omega arith) p)
-  out_from_lem (suc m) r s h p = out_from_lem m (suc r) _ (omega arith) (out_one_lem r s p)
+  out_from_lem {b = b} (suc m) r s h p = out_from_lem {b = suc b} m (suc r) _ (omega arith) (out_one_lem r s p)
 
 -- ---- the answer
 pub data AnswerAtMost (b : ℕ) : Answer → Type 0 where
