@@ -39,12 +39,12 @@ module _ {A : Type 0} {P : A → Type 0} where
   all_take : {xs : List A} (k : ℕ) → All P xs → All P (take k xs)
   all_take zero h = no_one
   all_take (suc k) no_one = no_one
-  all_take (suc k) (each p h) = each p (all_take k h)
+  all_take (suc k) (each {xs = xs} p h) = each p (all_take {xs = xs} k h)
 
   all_drop : {xs : List A} (k : ℕ) → All P xs → All P (drop k xs)
   all_drop zero h = h
   all_drop (suc k) no_one = no_one
-  all_drop (suc k) (each p h) = all_drop k h
+  all_drop (suc k) (each {xs = xs} p h) = all_drop {xs = xs} k h
 
 -- n is above every variable of the model, and above the 0 that a list is read as past its end
 module _ (M : Model) (n : ℕ) (above : 0 < n) (given_below : All (λ (v : ℕ). v < n) M.index) where

@@ -14,7 +14,7 @@ is_mip-mip-requires c = search rules
 pub reduce-requires : goal.reduce-requires
 reduce-requires c = let a = accept
     c.requires refl refl refl refl c.is_mip-mip.ensures refl in
-    ((holds_floats a, holds_numbers a, holds_adjacency a), reduce_given a)
+    record { holds_f = (holds_floats a, holds_numbers a, holds_adjacency a); given = reduce_given a }
 
 -- src/accepted.rt:72:31
 pub enum_told-1 : goal.enum_told-1
@@ -34,18 +34,12 @@ enum_told-in-Next c = search rules
 -- src/accepted.rt:73:23
 pub finished-requires : goal.finished-requires
 finished-requires c = let a = accept c.requires refl refl refl refl
-    c.is_mip-mip.ensures refl in (
-      (
+    c.is_mip-mip.ensures refl in record { holds_f = (
         still_holds c.floats-1.given (holds_floats a),
         still_holds c.numbers-1.given (holds_numbers a),
-      ),
-      (
-        has_room a,
-        ready_results a (reduces_is
+      ); room = has_room a; ready = ready_results a (reduces_is
             c.reduce.ensures.reduces
-            c.in-Next.is),
-      ),
-    )
+            c.in-Next.is) }
 
 -- src/accepted.rt:14:1
 pub shape_of-floats-in-Stop : goal.shape_of-floats-in-Stop
