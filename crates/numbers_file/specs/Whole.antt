@@ -48,6 +48,7 @@ text_refused s e = sym (ap decoded_numbers e)
 by : {M : Model} (d : Decoded) → Is M d → fault_line (fault M) ≡ decoded_numbers d
 unfolding decoded_numbers
 by (file f) (is_file e) = ap (λ (M : Model). fault_line (fault M)) e
+by {M = M} (refusal _) x'' = elim x'' [ ]
 
 pub text_read : (s : List ℕ) {M : Model} → Is M (decode s) → fault_line (fault M) ≡ numbers_text s
 unfolding numbers_text

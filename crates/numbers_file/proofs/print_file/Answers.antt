@@ -1,0 +1,30 @@
+-- The text is the file's, whether the reader refuses it or leaves its model in the arrays, in which every file fits.
+use Prim.Native.Nat.{ℕ}
+use mathlib.Core.Path.{refl, ap, ◌∙◌}
+use mathlib.Core.List.{List}
+use Rattle.print_result.specs.Printing.{printed}
+use Rattle.presolve_file.specs.Front.{read_held, refused_number, read_lists}
+use Rattle.numbers_file.specs.Whole.{text_refused, text_read}
+use borrow.Author.Rules.{rules}
+use Rattle.numbers_file.proofs.print_file.Goals as goal
+
+pub print_front-requires : goal.print_front-requires
+print_front-requires c = read_held _ _ c.read_model.ensures
+    (record { objective = refl; lower = refl; upper = refl; domain = refl; starts = refl; index = refl; coeff = refl; cmp = refl; rhs = refl })
+    c.in-Model.is
+
+pub returns-in-Refused : goal.returns-in-Refused
+returns-in-Refused c = c.print_refusal.ensures ∙ ap
+    (λ (t : List ℕ). printed t
+    c.args.text.now)
+    (text_refused _ (refused_number _ _
+    (record { objective = refl; lower = refl; upper = refl; domain = refl; starts = refl; index = refl; coeff = refl; cmp = refl; rhs = refl })
+    c.read_model.ensures c.in-Refused.is))
+
+pub returns-in-Model : goal.returns-in-Model
+returns-in-Model c = c.print_front.ensures ∙ ap
+    (λ (t : List ℕ). printed t
+    c.args.text.now)
+    (text_read _ (read_lists _ _
+    (record { objective = refl; lower = refl; upper = refl; domain = refl; starts = refl; index = refl; coeff = refl; cmp = refl; rhs = refl })
+    c.read_model.ensures c.in-Model.is))
