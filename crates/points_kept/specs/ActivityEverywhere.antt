@@ -15,8 +15,9 @@ use Rattle.definition.specs.Emit.{Out}
 use Rattle.definition.specs.Presolve.{presolve}
 use Rattle.rows_kept.specs.Kept.{Kept}
 use Rattle.rows_kept.specs.Whole.{reduced}
-use Rattle.rows_kept.specs.AllRows.{read_size}
-use Rattle.rows_kept.specs.States.{Reaches, reached_kept, Answered, reduced_to, answer_reached}
+use Rattle.rows_kept.proofs.AllRows.{read_size}
+use Rattle.rows_kept.specs.States.{Reaches, Answered, reduced_to}
+use Rattle.rows_kept.proofs.States.{reached_kept, answer_reached}
 use Rattle.rows_kept.specs.Looks.{Look}
 use Rattle.points_kept.specs.Statements.{PureInteger}
 use Rattle.points_kept.specs.Invariant.{IntervalAt}

@@ -16,7 +16,8 @@ use Rattle.definition.specs.Refusal.{shortest, refusal, judging}
 use Rattle.definition.specs.Cases.{everything, #, ratio, -0f, bits}
 use Rattle.rows_kept.specs.Steps.{Each, went}
 use Rattle.rows_kept.specs.Whole.{begun}
-use Rattle.rows_kept.specs.States.{Reaches, begins, rounds_on}
+use Rattle.rows_kept.specs.States.{Reaches, begins}
+use Rattle.rows_kept.proofs.States.{rounds_on}
 use Rattle.points_kept.specs.Statements.{PureInteger}
 use Rattle.definition.specs.Accepted.{accepted_shaped}
 use Rattle.points_kept.specs.ActivityExact.{ActivityExact}

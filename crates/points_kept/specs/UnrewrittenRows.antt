@@ -21,8 +21,10 @@ use Rattle.definition.specs.Tighten.{Rewriting, rewrite_step, rewrite_loop}
 use Rattle.definition.specs.Choices.{both, taking, true≢false}
 use Rattle.rows_kept.specs.Kept.{Changed, folded, tightened, Kept}
 use Rattle.rows_kept.specs.Whole.{Read, unread, queues, drops}
-use Rattle.rows_kept.specs.States.{Reaches, reached_kept}
-use Rattle.rows_kept.specs.AllRows.{AllRows, set_all, read_size}
+use Rattle.rows_kept.specs.States.{Reaches}
+use Rattle.rows_kept.proofs.States.{reached_kept}
+use Rattle.rows_kept.specs.AllRows.{AllRows}
+use Rattle.rows_kept.proofs.AllRows.{set_all, read_size}
 use Rattle.points_kept.specs.Statements.{PureInteger}
 use Rattle.definition.specs.Tests.{last_or}
 use Rattle.points_kept.specs.Terms.{All, TermOk, Distinct, all_index, index_all}

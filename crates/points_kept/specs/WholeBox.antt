@@ -22,8 +22,9 @@ use Rattle.definition.specs.Choices.{both}
 use Rattle.definition.specs.Tests.{test, taking, never, differ}
 use Rattle.rows_kept.specs.Steps.{Each, stopped, went}
 use Rattle.rows_kept.specs.Kept.{Marking}
-use Rattle.rows_kept.specs.Boxes.{mark_var_lem, mark_tightened_lem}
-use Rattle.rows_kept.specs.States.{Reaches, begins, marks, counted, passes, lowers, raises, singles, forces, fixes, changes, drops, next_is}
+use Rattle.rows_kept.proofs.Boxes.{mark_var_lem, mark_tightened_lem}
+use Rattle.rows_kept.specs.States.{Reaches, begins, marks, counted, passes, lowers, raises, singles, forces, fixes, changes, drops}
+use Rattle.rows_kept.proofs.States.{next_is}
 use Rattle.points_kept.specs.Statements.{PureInteger}
 use Rattle.points_kept.specs.Integers.{eq_parts, size_between}
 use Rattle.points_kept.specs.WholeFloats.{of_nlt}

@@ -14,7 +14,7 @@ use Rattle.definition.specs.Model.{Model, is_int, Emit, Reduced}
 use Rattle.definition.specs.Presolve.{presolve}
 use Rattle.definition.specs.Refusal.{refusal}
 use Rattle.rows_kept.specs.Statements.{Fate, entries_of, occurs, count_below, no_entry}
-use Rattle.rows_kept.specs.Theorems as kept
+use Rattle.rows_kept.proofs.Theorems as kept
 use Rattle.points_kept.specs.Statements.{WholeNumbers, Point, terms_of, MeetsReduced, WholeReduced, Exact}
 use Rattle.best_kept.specs.Objective.{WholeObjective, SameFeasible, SameLeast, BestKept}
 use Rattle.points_kept.specs.Theorem.{points_kept}

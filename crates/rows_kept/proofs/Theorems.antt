@@ -12,15 +12,22 @@ use Rattle.definition.specs.Model.{Model, op_of, is_int, is_mip, is_int_domain, 
 use Rattle.definition.specs.Presolve.{presolve}
 use Rattle.rows_kept.specs.Statements.{All, no_one, each, entries_of, occurs, Fate, count_below, no_entry, Rising, rows_of, Consecutive, no_span, skips, spans, Spans}
 use Rattle.definition.specs.Choices.{true≢false}
-use Rattle.rows_kept.specs.Whole.{From, gave_up, found, whole, state_only, of_done}
-use Rattle.rows_kept.specs.Lists.{count_same}
-use Rattle.rows_kept.specs.Fates.{Fates, Any, Settled, settles}
-use Rattle.rows_kept.specs.Counted.{dead, tallies}
-use Rattle.rows_kept.specs.Given.{Keeps, given_held}
-use Rattle.rows_kept.specs.Sizes.{room_kept}
-use Rattle.rows_kept.specs.NoNan.{Numbers, no_nan_held}
-use Rattle.rows_kept.specs.Coefficients.{NumberTerm, out_numbers}
-use Rattle.rows_kept.specs.EqRows.{NotEqEntry, not_eq}
+use Rattle.rows_kept.specs.Whole.{From, gave_up, found}
+use Rattle.rows_kept.proofs.Whole.{whole, state_only, of_done}
+use Rattle.rows_kept.proofs.Lists.{count_same}
+use Rattle.rows_kept.specs.Fates.{Fates, Any, Settled}
+use Rattle.rows_kept.proofs.Fates.{settles}
+use Rattle.rows_kept.specs.Counted.{dead}
+use Rattle.rows_kept.proofs.Counted.{tallies}
+use Rattle.rows_kept.specs.Given.{Keeps}
+use Rattle.rows_kept.proofs.GivenBounds.{given_held}
+use Rattle.rows_kept.proofs.Sizes.{room_kept}
+use Rattle.rows_kept.specs.NoNan.{Numbers}
+use Rattle.rows_kept.proofs.NoNan.{no_nan_held}
+use Rattle.rows_kept.specs.Coefficients.{NumberTerm}
+use Rattle.rows_kept.proofs.Coefficients.{out_numbers}
+use Rattle.rows_kept.specs.EqRows.{NotEqEntry}
+use Rattle.rows_kept.proofs.EqRows.{not_eq}
 
 module _ (M : Model) where
   -- ---- 5: the waves, in an infeasible answer too
