@@ -20,10 +20,11 @@ use Rattle.definition.specs.Model.{Model, Row, range_min, range_max}
 use Rattle.definition.specs.Work.{Work, bound_tol}
 use Rattle.definition.specs.Activities.{no_activity, activity_step, activity_from, activity}
 use Rattle.points_kept.specs.Statements.{PureInteger, dot, Within}
-use Rattle.points_kept.specs.Integers.{size_add, mul_mono, mul_anti}
+use Rattle.points_kept.proofs.Integers.{size_add, mul_mono, mul_anti}
 use Rattle.definition.specs.Choices.{both}
 use Rattle.definition.specs.Tests.{taking, if_true, alike}
-use Rattle.points_kept.specs.WholeFloats.{finite, of_lt, of_nlt, zero_is, whole_nonneg, tolerance, abs_bounded, abs_pos, whole_abs, sum, product, Part, Mag}
+use Rattle.points_kept.proofs.WholeFloats.{finite, of_lt, of_nlt, zero_is, whole_nonneg, tolerance, abs_bounded, abs_pos, whole_abs, sum, product}
+use Rattle.points_kept.specs.WholeFloats.{Part, Mag}
 use Rattle.points_kept.specs.Terms.{All, TermOk, lowest, highest, least, most, low, high, low_mag, high_mag}
 use Rattle.best_kept.specs.Invariant.{IntervalAt}
 

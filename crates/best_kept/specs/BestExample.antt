@@ -15,8 +15,8 @@ use Rattle.definition.specs.Cases.{Right, each, writing}
 use Rattle.definition.specs.DualCases.{priced, dual_cases, dual_cases_lem, five_and_none, rise_then_fall}
 use Rattle.points_kept.specs.Statements.{Point, MeetsReduced, PureInteger, Meets, dot}
 use Rattle.best_kept.specs.Objective.{WholeObjective, cost_below, cost, Least, BestKept}
-use Rattle.points_kept.specs.Example.{bounded, only}
-use Rattle.points_kept.specs.Mixed.{two, upto_20, upto_15}
+use Rattle.points_kept.proofs.Example.{bounded, only}
+use Rattle.points_kept.proofs.Mixed.{two, upto_20, upto_15}
 use Rattle.best_kept.specs.BestKept.{best_kept}
 
 abbrev pub riser : Model

@@ -11,8 +11,8 @@ use Rattle.definition.specs.Model.{Model, Reduced, Answer, infeasible, done}
 use Rattle.definition.specs.Presolve.{presolve}
 use Rattle.points_kept.specs.Statements.{Point, PureInteger, MeetsReduced}
 use Rattle.best_kept.specs.Objective.{WholeObjective, cost, Least, SameFeasible, SameLeast, BestKept}
-use Rattle.points_kept.specs.Integers.{eq_parts, mul_mono, mul_anti}
-use Rattle.points_kept.specs.WholeFloats.{of_le, zero_is}
+use Rattle.points_kept.proofs.Integers.{eq_parts, mul_mono, mul_anti}
+use Rattle.points_kept.proofs.WholeFloats.{of_le, zero_is}
 use Rattle.best_kept.specs.Dominance.{Dominance, Dominates, KeptUpTo}
 use Rattle.best_kept.specs.Moved.{no_dearer}
 use Rattle.best_kept.specs.DualFixing.{Moves, dual_ok}

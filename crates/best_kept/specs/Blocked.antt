@@ -9,7 +9,8 @@ use Rattle.definition.specs.Work.{no_row}
 use Rattle.definition.specs.Dual.{block_terms, bad_dec, bad_inc, none_bad}
 use Rattle.definition.specs.Choices.{both}
 use Rattle.definition.specs.Tests.{test, chosen, unchosen, never}
-use Rattle.points_kept.specs.Terms.{All, all_map}
+use Rattle.points_kept.specs.Terms.{All}
+use Rattle.points_kept.proofs.Terms.{all_map}
 
 -- no term of v is one that blocks
 abbrev Free : Bool → Bool → ℕ → List Term → Type 0

@@ -14,7 +14,7 @@ use Rattle.definition.specs.Work.{Work, with_marks, drop_row}
 use Rattle.definition.specs.Marks.{mark_row, mark_from, mark_var, adjacent}
 use Rattle.best_kept.specs.PointSet.{PointSet}
 use Rattle.points_kept.specs.Statements.{Within}
-use Rattle.points_kept.specs.Integers.{size_between}
+use Rattle.points_kept.proofs.Integers.{size_between}
 use Rattle.definition.specs.Choices.{both}
 use Rattle.definition.specs.Tests.{test, differ}
 use Rattle.best_kept.specs.Invariant.{RowSided, Interval, IntervalAt, Narrow, Narrower, Good, GoodW, narrow, set_row}

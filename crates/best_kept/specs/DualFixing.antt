@@ -21,9 +21,10 @@ use Rattle.definition.specs.Bounds.{fix}
 use Rattle.definition.specs.Dual.{bad_dec, bad_inc, none_bad, may_fall, may_rise, dual_var, dual_from, dual_fix}
 use Rattle.definition.specs.Tests.{test, taking, and3}
 use Rattle.points_kept.specs.Statements.{PureInteger, Within}
-use Rattle.points_kept.specs.Integers.{eq_parts, mul_mono, mul_anti}
-use Rattle.points_kept.specs.WholeFloats.{finite, sign_pos, of_nlt, zero_is}
-use Rattle.points_kept.specs.Terms.{All, TermOk, all_map, all_both}
+use Rattle.points_kept.proofs.Integers.{eq_parts, mul_mono, mul_anti}
+use Rattle.points_kept.proofs.WholeFloats.{finite, sign_pos, of_nlt, zero_is}
+use Rattle.points_kept.specs.Terms.{All, TermOk}
+use Rattle.points_kept.proofs.Terms.{all_map, all_both}
 use Rattle.best_kept.specs.Invariant.{GoodW, RowSided, RowOk}
 use Rattle.best_kept.specs.Changes.{Sets, mark_any, set_good, set_one}
 use Rattle.best_kept.specs.WorkingRow.{AtWork, point_meets, met_in}

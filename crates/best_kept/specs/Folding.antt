@@ -20,11 +20,12 @@ use Rattle.definition.specs.Work.{Work, no_term, fixed}
 use Rattle.definition.specs.Folds.{swap_remove, fold_term, fold_step, fold_loop, bound?, gives_back, relax_with, relax_binding, given_back, hold_rewrites, fold_fixed}
 use Rattle.best_kept.specs.PointSet.{PointSet}
 use Rattle.points_kept.specs.Statements.{dot}
-use Rattle.points_kept.specs.Integers.{eq_parts, size_add, size_sub}
+use Rattle.points_kept.proofs.Integers.{eq_parts, size_add, size_sub}
 use Rattle.definition.specs.Choices.{both}
 use Rattle.definition.specs.Tests.{differ, last_or, test, taking}
-use Rattle.points_kept.specs.WholeFloats.{zero_is, sum, diff, product, mag_sum, mag_abs, ∞_is, -∞_is, inf_sub}
-use Rattle.points_kept.specs.Terms.{All, Distinct, TermOk, NonZero, all_index, index_all}
+use Rattle.points_kept.proofs.WholeFloats.{zero_is, sum, diff, product, mag_sum, mag_abs, ∞_is, -∞_is, inf_sub}
+use Rattle.points_kept.specs.Terms.{All, Distinct, TermOk, NonZero}
+use Rattle.points_kept.proofs.Terms.{all_index, index_all}
 use Rattle.best_kept.specs.Invariant.{re_terms, Side, RowOk, GoodW}
 
 -- ---- `swap_remove`

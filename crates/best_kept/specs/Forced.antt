@@ -20,11 +20,13 @@ use Rattle.definition.specs.Sides.{hi_side, lo_side, near_min, near_max}
 use Rattle.definition.specs.Forcing.{corner, forcing_at, forces_min, forces_max, fix_all}
 use Rattle.best_kept.specs.PointSet.{PointSet}
 use Rattle.points_kept.specs.Statements.{dot, Within}
-use Rattle.points_kept.specs.Integers.{eq_parts, mul_cancel, mul_cancel_neg}
+use Rattle.points_kept.proofs.Integers.{eq_parts, mul_cancel, mul_cancel_neg}
 use Rattle.definition.specs.Choices.{both}
 use Rattle.definition.specs.Tests.{and3, and, test, taking, picked, unpicked}
-use Rattle.points_kept.specs.WholeFloats.{of_lt, lt_of, zero_is, small, whole_neg, diff, sign, sign_pos, Mag}
-use Rattle.points_kept.specs.Terms.{All, Distinct, TermOk, least, most, low, high, NonZero, all_map, all_both, lowest, highest, tail_other, tail_distinct}
+use Rattle.points_kept.proofs.WholeFloats.{of_lt, lt_of, zero_is, small, whole_neg, diff, sign, sign_pos}
+use Rattle.points_kept.specs.WholeFloats.{Mag}
+use Rattle.points_kept.specs.Terms.{All, Distinct, TermOk, least, most, low, high, NonZero, lowest, highest}
+use Rattle.points_kept.proofs.Terms.{all_map, all_both, tail_other, tail_distinct}
 use Rattle.best_kept.specs.Invariant.{Narrow, GoodW}
 use Rattle.best_kept.specs.Changes.{From, Nars, set_good, set_one, wider, mark_any, drop_ok}
 use Rattle.best_kept.specs.Activity.{ActivityOf, L, H, above_least, below_most}

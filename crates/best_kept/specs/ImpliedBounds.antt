@@ -19,15 +19,18 @@ use Rattle.definition.specs.Work.{Work, budget}
 use Rattle.definition.specs.Implied.{rest_of, finite_abs, implied, implied_term, implied_bounds}
 use Rattle.best_kept.specs.PointSet.{PointSet}
 use Rattle.points_kept.specs.Statements.{dot, Within}
-use Rattle.points_kept.specs.Integers.{size_sub, mul_mono, mul_anti}
+use Rattle.points_kept.proofs.Integers.{size_sub, mul_mono, mul_anti}
 use Rattle.definition.specs.Tests.{nor, test, taking, if_true, alike_by, pick}
-use Rattle.points_kept.specs.WholeFloats.{finite, of_nlt, zero_is, tol_nonneg, whole_abs, abs_bounded, sized, diff, Mag, mag_sum, mag_abs, Part, sign, sign_pos}
-use Rattle.points_kept.specs.Terms.{All, TermOk, least, most, low, high, NonZero, lowest, highest, all_both, all_map}
+use Rattle.points_kept.proofs.WholeFloats.{finite, of_nlt, zero_is, tol_nonneg, whole_abs, abs_bounded, sized, diff, mag_sum, mag_abs, sign, sign_pos}
+use Rattle.points_kept.specs.WholeFloats.{Mag, Part}
+use Rattle.points_kept.specs.Terms.{All, TermOk, least, most, low, high, NonZero, lowest, highest}
+use Rattle.points_kept.proofs.Terms.{all_both, all_map}
 use Rattle.best_kept.specs.Invariant.{Each, went, then}
 use Rattle.best_kept.specs.Changes.{From}
 use Rattle.best_kept.specs.Activity.{Bounds, range_min_lem, range_max_lem, above_least, below_most, above_low, below_high, ActivityOf, L, H, Corner, corner_mag}
 use Rattle.best_kept.specs.WorkingRow.{int_var, finite_hi, finite_lo, rhs_mag_lem, scale_mag, budget_tol, AtWork, point_meets}
-use Rattle.points_kept.specs.Quotients.{rises, falls, upper_keeps, lower_keeps}
+use Rattle.points_kept.specs.Quotients.{rises, falls}
+use Rattle.points_kept.proofs.Quotients.{upper_keeps, lower_keeps}
 use Rattle.best_kept.specs.Tightening.{upper_ok, lower_ok}
 
 -- ---- narrower bounds raise the least and lower the greatest of a term

@@ -13,8 +13,8 @@ use Rattle.definition.specs.Model.{Model, Row}
 use Rattle.definition.specs.Singles.{widened_at, new_lower, new_upper}
 use Rattle.definition.specs.Choices.{both}
 use Rattle.definition.specs.Tests.{taking, or}
-use Rattle.points_kept.specs.Integers.{size_between}
-use Rattle.points_kept.specs.WholeFloats.{held, of_le, of_lt, self, half_nonneg, max_is, min_is, min_left, max_left, lt_le, not_nan}
+use Rattle.points_kept.proofs.Integers.{size_between}
+use Rattle.points_kept.proofs.WholeFloats.{held, of_le, of_lt, self, half_nonneg, max_is, min_is, min_left, max_left, lt_le, not_nan}
 use Rattle.best_kept.specs.Invariant.{Interval, Narrow}
 
 pub record Shrunk (el eh wl' wh' el' eh' : Float) : Type 0 where

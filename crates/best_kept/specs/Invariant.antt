@@ -18,9 +18,9 @@ use Rattle.definition.specs.Model.{with_terms, Model, written, op_of, rhs_of, Ro
 use Rattle.definition.specs.Work.{Work, Step, stop, next, ◌>>=◌, no_row}
 use Rattle.best_kept.specs.PointSet.{PointSet}
 use Rattle.points_kept.specs.Statements.{PureInteger, Meets, dot, Within, Point}
-use Rattle.points_kept.specs.Integers.{eq_parts}
+use Rattle.points_kept.proofs.Integers.{eq_parts}
 use Rattle.definition.specs.Tests.{and, test, all_true, differ}
-use Rattle.points_kept.specs.WholeFloats.{finite}
+use Rattle.points_kept.proofs.WholeFloats.{finite}
 use Rattle.points_kept.specs.Terms.{All, TermOk, Distinct}
 
 -- ---- bounds at work: whole, of a size, in order, the working ones the emitted ones as numbers

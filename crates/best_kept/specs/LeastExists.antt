@@ -18,7 +18,7 @@ use Rattle.definition.specs.Tests.{last_or}
 use Rattle.best_kept.specs.PointSet.{PointSet}
 use Rattle.points_kept.specs.Statements.{dot, Meets, Point}
 use Rattle.best_kept.specs.Objective.{cost_below, cost, Least}
-use Rattle.points_kept.specs.Integers.{eq_parts}
+use Rattle.points_kept.proofs.Integers.{eq_parts}
 use Rattle.points_kept.specs.Terms.{All}
 use Rattle.best_kept.specs.Moved.{moved}
 

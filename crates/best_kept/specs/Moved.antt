@@ -11,7 +11,8 @@ use Rattle.definition.specs.Model.{Model}
 use Rattle.definition.specs.Tests.{taking, chosen}
 use Rattle.points_kept.specs.Statements.{dot, Within}
 use Rattle.best_kept.specs.Objective.{cost_below, cost}
-use Rattle.points_kept.specs.Terms.{All, all_map}
+use Rattle.points_kept.specs.Terms.{All}
+use Rattle.points_kept.proofs.Terms.{all_map}
 
 -- x, but a for variable v
 abbrev pub moved : ℕ → ℤ → (ℕ → ℤ) → ℕ → ℤ

@@ -21,15 +21,16 @@ use Rattle.definition.specs.Work.{Work, Step, fixed, drop_row}
 use Rattle.definition.specs.Singles.{empty_row_check, fixed_value}
 use Rattle.best_kept.specs.PointSet.{PointSet}
 use Rattle.points_kept.specs.Statements.{dot, Within}
-use Rattle.points_kept.specs.Integers.{eq_parts}
+use Rattle.points_kept.proofs.Integers.{eq_parts}
 use Rattle.definition.specs.Choices.{both}
 use Rattle.definition.specs.Tests.{and, taking, chosen}
-use Rattle.points_kept.specs.WholeFloats.{zero_is, sum, mag_abs, tolerance}
+use Rattle.points_kept.proofs.WholeFloats.{zero_is, sum, mag_abs, tolerance}
 use Rattle.best_kept.specs.Invariant.{Sided, RowSided, Agrees, GoodW, Each, stopped, went}
 use Rattle.best_kept.specs.Changes.{drop_ok}
 use Rattle.best_kept.specs.WorkingRow.{met_in, AtWork, point_meets}
 use Rattle.best_kept.specs.Written.{written_length, written_ok}
-use Rattle.points_kept.specs.ImpliedSlack.{Slack, implied_from_lem}
+use Rattle.points_kept.specs.ImpliedSlack.{Slack}
+use Rattle.points_kept.proofs.ImpliedSlack.{implied_from_lem}
 use Rattle.best_kept.specs.Verdicts.{inside_ok, outside_ok, verdict_true, verdict_none}
 
 -- good, with the bounds of w, within which row r is met

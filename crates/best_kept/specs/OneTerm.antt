@@ -20,17 +20,19 @@ use Rattle.definition.specs.Bounds.{emit_bounds, mark_tightened}
 use Rattle.definition.specs.Singles.{finite_mag, room_at, widened_at, dropped_room, singleton_bounds, singleton_drop, singleton_row, new_lower, new_upper, singleton_int, lower_meets, upper_meets}
 use Rattle.best_kept.specs.PointSet.{PointSet}
 use Rattle.points_kept.specs.Statements.{dot, Within}
-use Rattle.points_kept.specs.Integers.{eq_parts}
+use Rattle.points_kept.proofs.Integers.{eq_parts}
 use Rattle.definition.specs.Choices.{both}
 use Rattle.definition.specs.Tests.{and, or, taking, if_true, alike_by}
-use Rattle.points_kept.specs.WholeFloats.{finite, of_le, of_lt, le_of, tol_nonneg, whole_abs, tolerance, abs_bounded, Mag, mag_sum, mag_abs, sign, sign_pos, ∞_is, -∞_is, inf_div}
+use Rattle.points_kept.proofs.WholeFloats.{finite, of_le, of_lt, le_of, tol_nonneg, whole_abs, tolerance, abs_bounded, mag_sum, mag_abs, sign, sign_pos, ∞_is, -∞_is, inf_div}
+use Rattle.points_kept.specs.WholeFloats.{Mag}
 use Rattle.points_kept.specs.Terms.{All, TermOk, NonZero}
 use Rattle.best_kept.specs.Invariant.{Sided, Good, GoodW, Each, stopped, went, then, Narrower}
 use Rattle.best_kept.specs.Intervals.{Shrunk, singled}
 use Rattle.best_kept.specs.Changes.{From, set_good, set_one, value, mark_any, drop_ok}
 use Rattle.best_kept.specs.Activity.{bound_tol_lem}
 use Rattle.best_kept.specs.WorkingRow.{int_var, met_in, rhs_mag_lem, scale_mag, budget_tol, AtWork, point_meets}
-use Rattle.points_kept.specs.Quotients.{AtMost, AtLeast, rises, falls, more_least, less_most, Signed, upper_keeps, lower_keeps, least_meets, most_meets}
+use Rattle.points_kept.specs.Quotients.{AtMost, AtLeast, rises, falls, Signed}
+use Rattle.points_kept.proofs.Quotients.{more_least, less_most, upper_keeps, lower_keeps, least_meets, most_meets}
 
 module _ {M : Model} {Sought : PointSet} {w0 : Work} {r : ℕ} {row : Row} (σ : AtWork M Sought w0 r row) where
   finite_mag_lem : {x : Float} → Is x σ.ok.b → Mag (2 ^ 45) (finite_mag row x)

@@ -24,7 +24,8 @@ use Rattle.best_kept.specs.PointSet.{PointSet}
 use Rattle.points_kept.specs.Statements.{WholeReduced, PureInteger, dot, Within, Point, terms_of, Meets, MeetsReduced}
 use Rattle.definition.specs.Choices.{both}
 use Rattle.definition.specs.Tests.{taking, last_or}
-use Rattle.points_kept.specs.Terms.{member_all, TermOk}
+use Rattle.points_kept.proofs.Terms.{member_all}
+use Rattle.points_kept.specs.Terms.{TermOk}
 use Rattle.best_kept.specs.Invariant.{RowSided, GoodW, NoPoint, Each, stopped, went, meets}
 use Rattle.best_kept.specs.Folding.{Folded, folded_ok}
 use Rattle.best_kept.specs.Written.{written_ok}

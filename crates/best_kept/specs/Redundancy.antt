@@ -16,8 +16,9 @@ use Rattle.definition.specs.Sides.{within_by, within, mag_both, redundant, withi
 use Rattle.best_kept.specs.PointSet.{PointSet}
 use Rattle.points_kept.specs.Statements.{Within, dot}
 use Rattle.definition.specs.Tests.{and, or, taking, nor}
-use Rattle.points_kept.specs.Margins.{nonneg_times}
-use Rattle.points_kept.specs.WholeFloats.{finite, zero_is, one_is, apart_le, Mag, mag_sum, of_nlt}
+use Rattle.points_kept.proofs.Margins.{nonneg_times}
+use Rattle.points_kept.proofs.WholeFloats.{finite, zero_is, one_is, apart_le, mag_sum, of_nlt}
+use Rattle.points_kept.specs.WholeFloats.{Mag}
 use Rattle.best_kept.specs.Invariant.{RowSided}
 use Rattle.best_kept.specs.Activity.{above_low, below_high, ActivityOf, L, H, corner_mag}
 use Rattle.best_kept.specs.WorkingRow.{met_in, finite_hi, finite_lo, rhs_mag_lem, scale_mag, AtWork}

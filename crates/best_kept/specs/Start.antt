@@ -19,10 +19,10 @@ use Rattle.definition.specs.Model.{Model, nnz, op_of, rhs_of, is_int, Row, with_
 use Rattle.definition.specs.Work.{no_row, trivial}
 use Rattle.definition.specs.Begin.{Bounds, cross, bounds, Rows, false_row, rows_are, crossed, rounded_lower, rounded_upper, round_var, round_from, add_row, read_row, read_from}
 use Rattle.points_kept.specs.Statements.{PureInteger, Point}
-use Rattle.points_kept.specs.Integers.{eq_parts}
+use Rattle.points_kept.proofs.Integers.{eq_parts}
 use Rattle.definition.specs.Choices.{both}
 use Rattle.definition.specs.Tests.{differ, last_or, test, taking, or, nor, if_true}
-use Rattle.points_kept.specs.WholeFloats.{finite, of_lt, of_nlt, tolerance}
+use Rattle.points_kept.proofs.WholeFloats.{finite, of_lt, of_nlt, tolerance}
 use Rattle.best_kept.specs.Invariant.{RowAt, NoPoint, Good, asks}
 use Rattle.best_kept.specs.Changes.{Sets, set_one}
 use Rattle.best_kept.specs.Written.{as_written_ok}

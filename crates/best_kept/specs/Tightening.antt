@@ -14,7 +14,7 @@ use Rattle.definition.specs.Work.{Work, with_bounds, with_counts, Step}
 use Rattle.definition.specs.Bounds.{tighten_upper, tighten_lower, upper_int, lower_int, mark_tightened}
 use Rattle.best_kept.specs.PointSet.{PointSet}
 use Rattle.definition.specs.Tests.{taking, if_true}
-use Rattle.points_kept.specs.WholeFloats.{held, of_le, of_lt, self, half_nonneg}
+use Rattle.points_kept.proofs.WholeFloats.{held, of_le, of_lt, self, half_nonneg}
 use Rattle.best_kept.specs.Invariant.{Each, stopped, went}
 use Rattle.best_kept.specs.Intervals.{lowered, raised}
 use Rattle.best_kept.specs.Changes.{From, mark_var_lem, value, set_good, set_one, set_none, wider}

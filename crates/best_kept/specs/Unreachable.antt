@@ -11,7 +11,7 @@ use Rattle.definition.specs.Work.{Work}
 use Rattle.definition.specs.Sides.{hi_side, lo_side, unreachable, above_hi, below_lo}
 use Rattle.definition.specs.Tests.{and, or}
 use Rattle.best_kept.specs.PointSet.{PointSet}
-use Rattle.points_kept.specs.WholeFloats.{apart}
+use Rattle.points_kept.proofs.WholeFloats.{apart}
 use Rattle.best_kept.specs.Invariant.{NoPoint}
 use Rattle.best_kept.specs.Activity.{ActivityOf, L, H, above_low, below_high}
 use Rattle.best_kept.specs.WorkingRow.{AtWork, point_meets, finite_hi, finite_lo, hi_side_lem, lo_side_lem, budget_l_ok, budget_u_ok}

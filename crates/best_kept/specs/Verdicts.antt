@@ -21,9 +21,9 @@ use Rattle.tolerances.specs.Budget.{row_tol}
 use Rattle.definition.specs.Model.{Model, op_of, rhs_of, written, from, nnz}
 use Rattle.definition.specs.Work.{trivial}
 use Rattle.points_kept.specs.Statements.{PureInteger, dot, Point}
-use Rattle.points_kept.specs.Integers.{eq_parts}
+use Rattle.points_kept.proofs.Integers.{eq_parts}
 use Rattle.definition.specs.Tests.{or, nor, test, chosen, unchosen}
-use Rattle.points_kept.specs.WholeFloats.{finite, not_infinite, held, self, of_lt, zero_is, tol_nonneg, tolerance, abs_bounded, abs_pos, ∞_is, -∞_is}
+use Rattle.points_kept.proofs.WholeFloats.{finite, not_infinite, held, self, of_lt, zero_is, tol_nonneg, tolerance, abs_bounded, abs_pos, ∞_is, -∞_is}
 use Rattle.best_kept.specs.Invariant.{Sided, RowSided, asks, NoPoint}
 
 -- ---- an infinity and a tolerance

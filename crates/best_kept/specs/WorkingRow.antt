@@ -14,9 +14,10 @@ use Rattle.definition.specs.Work.{Work, budget}
 use Rattle.definition.specs.Sides.{hi_side, lo_side, mag_l, mag_u, budget_l, budget_u}
 use Rattle.best_kept.specs.PointSet.{PointSet}
 use Rattle.points_kept.specs.Statements.{PureInteger, dot, Within}
-use Rattle.points_kept.specs.Integers.{eq_parts}
+use Rattle.points_kept.proofs.Integers.{eq_parts}
 use Rattle.definition.specs.Tests.{and, taking, all_true}
-use Rattle.points_kept.specs.WholeFloats.{∞_not, -∞_not, zero_is, small, tol_nonneg, whole_nonneg, tolerance, sum, Mag, mag_sum, mag_abs}
+use Rattle.points_kept.proofs.WholeFloats.{∞_not, -∞_not, zero_is, small, tol_nonneg, whole_nonneg, tolerance, sum, mag_sum, mag_abs}
+use Rattle.points_kept.specs.WholeFloats.{Mag}
 use Rattle.best_kept.specs.Invariant.{Sided, RowSided, asks, RowOk, GoodW, agree_within}
 use Rattle.best_kept.specs.Activity.{ActivityOf, corner_mag, L, H}
 

@@ -11,8 +11,9 @@ use Rattle.definition.specs.Model.{Model, from, upto, nnz, written, op_of, rhs_o
 use Rattle.definition.specs.Work.{no_term}
 use Rattle.points_kept.specs.Statements.{PureInteger}
 use Rattle.definition.specs.Tests.{test, chosen, unchosen}
-use Rattle.points_kept.specs.WholeFloats.{zero_is}
-use Rattle.points_kept.specs.Terms.{All, Distinct, TermOk, all_index}
+use Rattle.points_kept.proofs.WholeFloats.{zero_is}
+use Rattle.points_kept.specs.Terms.{All, Distinct, TermOk}
+use Rattle.points_kept.proofs.Terms.{all_index}
 use Rattle.best_kept.specs.Invariant.{RowOk}
 
 -- ---- a span of two lists

@@ -7,7 +7,7 @@ use Rattle.floats.specs.Zed.{P, N, A, ext, add_parts, ◌⊑◌, P_neg, N_neg}
 use Rattle.floats.specs.Value.{signed}
 use Rattle.floats.specs.Points.{int, is_whole, Whole}
 use Rattle.points_kept.specs.Statements.{HUNDREDTH}
-use Rattle.points_kept.specs.Integers.{eq_parts}
+use Rattle.points_kept.proofs.Integers.{eq_parts}
 use Rattle.definition.specs.Tests.{and}
 
 -- a float of sign s (true is minus), digits m and exponent e is m * 2 ^ e, where 2 ^ e is `up e / down e`; it is whole where that comes out even, and then it is the number

@@ -15,12 +15,14 @@ use Rattle.points_kept.specs.Statements.{PureInteger}
 use Rattle.definition.specs.Choices.{both}
 use Rattle.definition.specs.Tests.{test, taking, never}
 use Rattle.points_kept.specs.Terms.{All, NonZero}
-use Rattle.points_kept.specs.Invariant.{GoodW, Each, went, then, set_row}
+use Rattle.points_kept.specs.Invariant.{GoodW, Each, went}
+use Rattle.points_kept.proofs.Invariant.{then, set_row}
 use Rattle.points_kept.specs.WorkingRow.{AtWork}
-use Rattle.points_kept.specs.OneTerm.{single_ok}
-use Rattle.points_kept.specs.SeveralTerms.{several_ok}
-use Rattle.points_kept.specs.Folding.{Folded, folded_ok}
-use Rattle.points_kept.specs.NoTerm.{empty_keeps, good_of}
+use Rattle.points_kept.proofs.OneTerm.{single_ok}
+use Rattle.points_kept.proofs.SeveralTerms.{several_ok}
+use Rattle.points_kept.specs.Folding.{Folded}
+use Rattle.points_kept.proofs.FoldLoop.{folded_ok}
+use Rattle.points_kept.proofs.NoTerm.{empty_keeps, good_of}
 
 -- a row in the place of an alive one
 pub replaced : {M : Model} (pure : PureInteger M) (r : ℕ) (w : Work) (row0 row : Row) → r < length M.rhs → (g : GoodW M w) → T row0.alive → Folded M w g r row0 row → GoodW M (with_row r row w)

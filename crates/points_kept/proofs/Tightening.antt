@@ -14,10 +14,11 @@ use Rattle.definition.specs.Work.{Work, with_bounds, with_counts, Step}
 use Rattle.definition.specs.Bounds.{tighten_upper, tighten_lower, upper_int, lower_int, mark_tightened}
 use Rattle.points_kept.specs.Statements.{Point}
 use Rattle.definition.specs.Tests.{taking, if_true}
-use Rattle.points_kept.specs.WholeFloats.{held, of_le, of_lt, self, half_nonneg}
+use Rattle.points_kept.proofs.WholeFloats.{held, of_le, of_lt, self, half_nonneg}
 use Rattle.points_kept.specs.Invariant.{Each, stopped, went}
-use Rattle.points_kept.specs.Intervals.{lowered, raised}
-use Rattle.points_kept.specs.Changes.{From, mark_var_lem, value, set_good, set_one, set_none, wider}
+use Rattle.points_kept.proofs.Intervals.{lowered, raised}
+use Rattle.points_kept.specs.Changes.{From}
+use Rattle.points_kept.proofs.Changes.{mark_var_lem, value, set_good, set_one, set_none, wider}
 
 module _ (M : Model) (w0 : Work) (v : ℕ) (w : Work) (h : v < length M.lower) (inv : From M w0 w) where
   -- ---- a rounded upper bound, floor y, that no point's value is above

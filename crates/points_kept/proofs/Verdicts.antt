@@ -21,10 +21,11 @@ use Rattle.tolerances.specs.Budget.{row_tol}
 use Rattle.definition.specs.Model.{Model, op_of, rhs_of, written, from, nnz}
 use Rattle.definition.specs.Work.{trivial}
 use Rattle.points_kept.specs.Statements.{PureInteger, dot}
-use Rattle.points_kept.specs.Integers.{eq_parts}
+use Rattle.points_kept.proofs.Integers.{eq_parts}
 use Rattle.definition.specs.Tests.{or, nor, test, chosen, unchosen}
-use Rattle.points_kept.specs.WholeFloats.{finite, not_infinite, held, self, of_lt, zero_is, tol_nonneg, tolerance, abs_bounded, abs_pos, ∞_is, -∞_is}
-use Rattle.points_kept.specs.Invariant.{Sided, RowSided, asks, NoPoint}
+use Rattle.points_kept.proofs.WholeFloats.{finite, not_infinite, held, self, of_lt, zero_is, tol_nonneg, tolerance, abs_bounded, abs_pos, ∞_is, -∞_is}
+use Rattle.points_kept.specs.Invariant.{Sided, RowSided, NoPoint}
+use Rattle.points_kept.proofs.Invariant.{asks}
 
 -- ---- an infinity and a tolerance
 inf_sub : (t : Float) → Tol t → inf true ⊖ t ≡ inf true

@@ -10,10 +10,12 @@ use Rattle.definition.specs.Model.{Model, Row}
 use Rattle.definition.specs.Work.{Work}
 use Rattle.definition.specs.Sides.{hi_side, lo_side, unreachable, above_hi, below_lo}
 use Rattle.definition.specs.Tests.{and, or}
-use Rattle.points_kept.specs.WholeFloats.{apart}
+use Rattle.points_kept.proofs.WholeFloats.{apart}
 use Rattle.points_kept.specs.Invariant.{NoPoint}
-use Rattle.points_kept.specs.Activity.{ActivityOf, L, H, above_low, below_high}
-use Rattle.points_kept.specs.WorkingRow.{AtWork, point_meets, finite_hi, finite_lo, hi_side_lem, lo_side_lem, budget_l_ok, budget_u_ok}
+use Rattle.points_kept.specs.Activity.{ActivityOf, L, H}
+use Rattle.points_kept.proofs.Activity.{above_low, below_high}
+use Rattle.points_kept.specs.WorkingRow.{AtWork}
+use Rattle.points_kept.proofs.WorkingRow.{point_meets, finite_hi, finite_lo, hi_side_lem, lo_side_lem, budget_l_ok, budget_u_ok}
 
 module _ {M : Model} {w : Work} {r : ℕ} {row : Row} (σ : AtWork M w r row) {act : Activity} (a : ActivityOf (L M w) (H M w) row.terms act) where
   above_hi_ok : T (above_hi M r row act) → NoPoint M

@@ -13,13 +13,14 @@ use Rattle.definition.specs.Wave.{several_terms}
 use Rattle.definition.specs.Tests.{taking}
 use Rattle.points_kept.specs.Terms.{All, NonZero}
 use Rattle.points_kept.specs.Invariant.{GoodW, Each, stopped, went}
-use Rattle.points_kept.specs.Changes.{From, drop_ok}
-use Rattle.points_kept.specs.Activity.{activity_of}
+use Rattle.points_kept.specs.Changes.{From}
+use Rattle.points_kept.proofs.Changes.{drop_ok}
+use Rattle.points_kept.proofs.Activity.{activity_of}
 use Rattle.points_kept.specs.WorkingRow.{AtWork}
-use Rattle.points_kept.specs.Unreachable.{unreachable_ok}
-use Rattle.points_kept.specs.ImpliedBounds.{implied_ok}
-use Rattle.points_kept.specs.Redundancy.{redundant_ok}
-use Rattle.points_kept.specs.Forced.{forces_min_ok, forces_max_ok}
+use Rattle.points_kept.proofs.Unreachable.{unreachable_ok}
+use Rattle.points_kept.proofs.ImpliedBounds.{implied_ok}
+use Rattle.points_kept.proofs.Redundancy.{redundant_ok}
+use Rattle.points_kept.proofs.ForcesCorner.{forces_min_ok, forces_max_ok}
 
 forget : {M : Model} {w0 : Work} {s : Step} → Each M (From M w0) s → Each M (GoodW M) s
 forget (stopped n) = stopped n
