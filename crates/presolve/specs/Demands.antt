@@ -18,7 +18,7 @@ use Rattle.rows_kept.proofs.Theorems as kept
 use Rattle.points_kept.specs.Statements.{WholeNumbers, Point, terms_of, MeetsReduced, WholeReduced, Exact}
 use Rattle.best_kept.specs.Objective.{WholeObjective, SameFeasible, SameLeast, BestKept}
 use Rattle.points_kept.proofs.Theorem.{points_kept}
-use Rattle.best_kept.specs.BestKept.{best_kept}
+use Rattle.best_kept.proofs.BestKept.{best_kept}
 use Rattle.points_kept.specs.ActivityEverywhere.{WholeBounds}
 use Rattle.points_kept.proofs.ActivityEverywhere.{answer_whole}
 use Rattle.definition.specs.Accepted.{Shaped, accepted_shaped}

@@ -13,8 +13,10 @@ use Rattle.definition.specs.Tests.{and, or}
 use Rattle.best_kept.specs.PointSet.{PointSet}
 use Rattle.points_kept.proofs.WholeFloats.{apart}
 use Rattle.best_kept.specs.Invariant.{NoPoint}
-use Rattle.best_kept.specs.Activity.{ActivityOf, L, H, above_low, below_high}
-use Rattle.best_kept.specs.WorkingRow.{AtWork, point_meets, finite_hi, finite_lo, hi_side_lem, lo_side_lem, budget_l_ok, budget_u_ok}
+use Rattle.best_kept.specs.Activity.{ActivityOf, L, H}
+use Rattle.best_kept.proofs.Activity.{above_low, below_high}
+use Rattle.best_kept.specs.WorkingRow.{AtWork}
+use Rattle.best_kept.proofs.WorkingRow.{point_meets, finite_hi, finite_lo, hi_side_lem, lo_side_lem, budget_l_ok, budget_u_ok}
 
 module _ {M : Model} {Sought : PointSet} {w : Work} {r : ℕ} {row : Row} (σ : AtWork M Sought w r row) {act : Activity} (a : ActivityOf (L M w) (H M w) row.terms act) where
   above_hi_ok : T (above_hi M r row act) → NoPoint M Sought

@@ -16,8 +16,9 @@ use Rattle.best_kept.specs.PointSet.{PointSet}
 use Rattle.definition.specs.Tests.{taking, if_true}
 use Rattle.points_kept.proofs.WholeFloats.{held, of_le, of_lt, self, half_nonneg}
 use Rattle.best_kept.specs.Invariant.{Each, stopped, went}
-use Rattle.best_kept.specs.Intervals.{lowered, raised}
-use Rattle.best_kept.specs.Changes.{From, mark_var_lem, value, set_good, set_one, set_none, wider}
+use Rattle.best_kept.proofs.Intervals.{lowered, raised}
+use Rattle.best_kept.specs.Changes.{From}
+use Rattle.best_kept.proofs.Changes.{mark_var_lem, value, set_good, set_one, set_none, wider}
 
 module _ (M : Model) {Sought : PointSet} (w0 : Work) (v : ℕ) (w : Work) (h : v < length M.lower) (inv : From M Sought w0 w) where
   -- ---- a rounded upper bound, floor y, that no point's value is above

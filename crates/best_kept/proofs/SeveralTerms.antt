@@ -14,13 +14,14 @@ use Rattle.definition.specs.Tests.{taking}
 use Rattle.best_kept.specs.PointSet.{PointSet}
 use Rattle.points_kept.specs.Terms.{All, NonZero}
 use Rattle.best_kept.specs.Invariant.{GoodW, Each, stopped, went}
-use Rattle.best_kept.specs.Changes.{From, drop_ok}
-use Rattle.best_kept.specs.Activity.{activity_of}
+use Rattle.best_kept.specs.Changes.{From}
+use Rattle.best_kept.proofs.Changes.{drop_ok}
+use Rattle.best_kept.proofs.Activity.{activity_of}
 use Rattle.best_kept.specs.WorkingRow.{AtWork}
-use Rattle.best_kept.specs.Unreachable.{unreachable_ok}
-use Rattle.best_kept.specs.ImpliedBounds.{implied_ok}
-use Rattle.best_kept.specs.Redundancy.{redundant_ok}
-use Rattle.best_kept.specs.Forced.{forces_min_ok, forces_max_ok}
+use Rattle.best_kept.proofs.Unreachable.{unreachable_ok}
+use Rattle.best_kept.proofs.ImpliedBounds.{implied_ok}
+use Rattle.best_kept.proofs.Redundancy.{redundant_ok}
+use Rattle.best_kept.proofs.Forced.{forces_min_ok, forces_max_ok}
 
 forget : {M : Model} {Sought : PointSet} {w0 : Work} {s : Step} → Each M Sought (From M Sought w0) s → Each M Sought (GoodW M Sought) s
 forget (stopped n) = stopped n

@@ -16,12 +16,14 @@ use Rattle.points_kept.specs.Statements.{PureInteger}
 use Rattle.definition.specs.Choices.{both}
 use Rattle.definition.specs.Tests.{test, taking, never}
 use Rattle.points_kept.specs.Terms.{All, NonZero}
-use Rattle.best_kept.specs.Invariant.{GoodW, Each, went, then, set_row}
+use Rattle.best_kept.specs.Invariant.{GoodW, Each, went}
+use Rattle.best_kept.proofs.Invariant.{then, set_row}
 use Rattle.best_kept.specs.WorkingRow.{AtWork}
-use Rattle.best_kept.specs.OneTerm.{single_ok}
-use Rattle.best_kept.specs.SeveralTerms.{several_ok}
-use Rattle.best_kept.specs.Folding.{Folded, folded_ok}
-use Rattle.best_kept.specs.NoTerm.{empty_keeps, good_of}
+use Rattle.best_kept.proofs.OneTerm.{single_ok}
+use Rattle.best_kept.proofs.SeveralTerms.{several_ok}
+use Rattle.best_kept.specs.Folding.{Folded}
+use Rattle.best_kept.proofs.Folding.{folded_ok}
+use Rattle.best_kept.proofs.NoTerm.{empty_keeps, good_of}
 
 -- a row in the place of an alive one
 pub replaced : {M : Model} {Sought : PointSet} (pure : PureInteger M) (r : ℕ) (w : Work) (row0 row : Row)

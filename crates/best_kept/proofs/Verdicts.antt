@@ -24,7 +24,8 @@ use Rattle.points_kept.specs.Statements.{PureInteger, dot, Point}
 use Rattle.points_kept.proofs.Integers.{eq_parts}
 use Rattle.definition.specs.Tests.{or, nor, test, chosen, unchosen}
 use Rattle.points_kept.proofs.WholeFloats.{finite, not_infinite, held, self, of_lt, zero_is, tol_nonneg, tolerance, abs_bounded, abs_pos, ∞_is, -∞_is}
-use Rattle.best_kept.specs.Invariant.{Sided, RowSided, asks, NoPoint}
+use Rattle.best_kept.specs.Invariant.{Sided, RowSided, NoPoint}
+use Rattle.best_kept.proofs.Invariant.{asks}
 
 -- ---- an infinity and a tolerance
 inf_sub : (t : Float) → Tol t → inf true ⊖ t ≡ inf true
