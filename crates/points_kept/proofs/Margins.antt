@@ -8,9 +8,11 @@ use Rattle.std.specs.Float.Ieee.{mul, up, down, le, fits, of_bits}
 use Rattle.floats.specs.Num.{◌⊗◌}
 use Rattle.floats.specs.Zed.{◌⊑◌, ◌⊏◌, P_neg, N_neg}
 use Rattle.floats.specs.Order.{rank_num}
-use Rattle.floats.specs.Points.{int, is_whole, Whole, whole_num}
-use Rattle.floats.specs.WholeRounding.{NonNeg, nonneg_cases, nonneg_rank}
-use Rattle.floats.specs.Slacks.{product_nonneg, whole_nonneg}
+use Rattle.floats.specs.Points.{int, is_whole, Whole}
+use Rattle.floats.proofs.Points.{whole_num}
+use Rattle.floats.specs.WholeRounding.{NonNeg}
+use Rattle.floats.proofs.WholeRounding.{nonneg_cases, nonneg_rank}
+use Rattle.floats.proofs.Slacks.{product_nonneg, whole_nonneg}
 
 inf_times : (y : Float) → Whole y → pos 0 ⊏ int y → inf false ⊗ y ≡ inf false
 unfolding mul int is_whole

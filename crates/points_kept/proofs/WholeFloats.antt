@@ -7,8 +7,9 @@ use Rattle.std.specs.Float.Ieee.{fits, lt, le, neg, of_bits, is_nan, eq, up, dow
 use Rattle.floats.specs.Num.{◌⊕◌, ◌⊖◌, 0f, 1f, ½f, is_finite, is_infinite, ◌⊗◌, abs, maxf, minf, -∞f, ∞f, ◌⊘◌, choose}
 use Rattle.floats.specs.Zed.{P, N, A, ◌⊑◌, ◌⊏◌, side, P_neg, N_neg, add_parts, ext}
 use Rattle.floats.specs.Value.{signed}
-use Rattle.floats.specs.Points.{int, is_whole, Whole, Held, ◌≼◌, ◌≺◌, ◌⊀◌, Is, Bounded, to_units}
-use Rattle.floats.specs.Quotients.{neg_is}
+use Rattle.floats.specs.Points.{int, is_whole, Whole, Held, ◌≼◌, ◌≺◌, ◌⊀◌, Is, Bounded}
+use Rattle.floats.proofs.Points.{to_units}
+use Rattle.floats.proofs.Quotients.{neg_is}
 use Rattle.floats.specs.WholeRounding.{⅜f, NonNeg, Tol}
 use Rattle.tolerances.specs.Laws.{laws}
 use Rattle.tolerances.specs.Tol.{at}

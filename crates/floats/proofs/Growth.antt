@@ -9,11 +9,13 @@ use Rattle.floats.specs.Zed.{◌⊑◌, add_parts, sub_parts}
 use Rattle.floats.specs.Value.{units, Num}
 use Rattle.floats.specs.Order.{num_real, rank, rank_num, ⊑→le}
 use Rattle.floats.specs.Ranks.{sum_result, sub_result, held_of}
-use Rattle.floats.specs.Meaning.{floor_own, ceil_mirror}
-use Rattle.floats.specs.Points.{Whole, Held, ◌≼◌, ◌≺◌, to_units}
-use Rattle.floats.specs.Compare.{le_lt_trans}
-use Rattle.floats.specs.WholeRounding.{⅜f, NonNeg, Tol, nonneg_rank, nonneg_cases, inf_real, num_fin, inf_inf, num_minus, minus_minus, top, bottom, sum_above, sub_below}
-use Rattle.floats.specs.Quotients.{neg_is}
+use Rattle.floats.proofs.Meaning.{floor_own, ceil_mirror}
+use Rattle.floats.specs.Points.{Whole, Held, ◌≼◌, ◌≺◌}
+use Rattle.floats.proofs.Points.{to_units}
+use Rattle.floats.proofs.Compare.{le_lt_trans}
+use Rattle.floats.specs.WholeRounding.{⅜f, NonNeg, Tol}
+use Rattle.floats.proofs.WholeRounding.{nonneg_rank, nonneg_cases, inf_real, num_fin, inf_inf, num_minus, minus_minus, top, bottom, sum_above, sub_below}
+use Rattle.floats.proofs.Quotients.{neg_is}
 use Rattle.floats.specs.Num.{◌⊕◌, ◌⊖◌, 1f, floor, ceil}
 
 -- ---- x ⊕ r ≥ x and x ⊖ r ≤ x, for a number x and r from 0 to +∞

@@ -14,9 +14,11 @@ use Rattle.floats.specs.Whole.{sc, P_sc, N_sc}
 use Rattle.floats.specs.Order.{rank, rank_num, le→⊑, ⊑→le}
 use Rattle.floats.specs.Ranks as K
 use Rattle.floats.specs.Ranks.{quot_above, quot_below, Result, sum_result, sub_result, div_result, held_of}
-use Rattle.floats.specs.Points.{int, Whole, ◌≼◌, Held, Bounded, Is, to_units, of_units, whole_num, whole_real, whole_rank, units_fin}
-use Rattle.floats.specs.WholeRounding.{NonNeg, Tol, tol_num, tol_most, tol_least, small_num, held_scaled, zero_held, held_less, held_more, sum_below, sub_above, add_keeps, sub_keeps}
-use Rattle.floats.specs.Compare as C
+use Rattle.floats.specs.Points.{int, Whole, ◌≼◌, Held, Bounded, Is}
+use Rattle.floats.proofs.Points.{to_units, of_units, whole_num, whole_real, whole_rank, units_fin}
+use Rattle.floats.specs.WholeRounding.{NonNeg, Tol}
+use Rattle.floats.proofs.WholeRounding.{tol_num, tol_most, tol_least, small_num, held_scaled, zero_held, held_less, held_more, sum_below, sub_above, add_keeps, sub_keeps}
+use Rattle.floats.proofs.Compare as C
 use Rattle.floats.specs.Num.{◌⊕◌, ◌⊖◌, ◌⊘◌, abs, is_finite}
 
 -- ---- a positive whole number

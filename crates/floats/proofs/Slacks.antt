@@ -12,13 +12,15 @@ use Rattle.floats.specs.Norm.{Parts, parts_units}
 use Rattle.floats.specs.Whole as W
 use Rattle.floats.specs.Whole.{sc, P_sc, N_sc}
 use Rattle.floats.specs.Order.{Real, num_real, rank, rank_num, nlt→⊑}
-use Rattle.floats.specs.Meaning.{maxf_first, maxf_second}
+use Rattle.floats.proofs.Meaning.{maxf_first, maxf_second}
 use Rattle.floats.specs.Ranks as K
 use Rattle.floats.specs.Ranks.{quot_above, quot_below, sum_result, sub_result, mul_result, held_of}
-use Rattle.floats.specs.Points.{int, Whole, Held, Bounded, to_units, whole_num, units_fin}
-use Rattle.floats.specs.WholeRounding.{⅜f, NonNeg, Tol, zero_rank, real_0, nonneg_real, nonneg_rank, nonneg_of, tol_real, tol_of, tol_num, tol_most}
-use Rattle.floats.specs.WholeRounding.{tol_least, inf_real, nonneg_cases, num_fin, inf_inf, top, zero_held, link, sum_above, sub_below, eighths}
-use Rattle.floats.specs.Quotients.{pos_units, pos_size, by, by_above}
+use Rattle.floats.specs.Points.{int, Whole, Held, Bounded}
+use Rattle.floats.proofs.Points.{to_units, whole_num, units_fin}
+use Rattle.floats.specs.WholeRounding.{⅜f, NonNeg, Tol}
+use Rattle.floats.proofs.WholeRounding.{zero_rank, real_0, nonneg_real, nonneg_rank, nonneg_of, tol_real, tol_of, tol_num, tol_most}
+use Rattle.floats.proofs.WholeRounding.{tol_least, inf_real, nonneg_cases, num_fin, inf_inf, top, zero_held, link, sum_above, sub_below, eighths}
+use Rattle.floats.proofs.Quotients.{pos_units, pos_size, by, by_above}
 use Rattle.floats.specs.Num.{◌⊕◌, ◌⊖◌, ◌⊗◌, ◌⊘◌, 0f, maxf}
 
 inf_nonneg : NonNeg (inf false)
