@@ -1,36 +1,22 @@
 -- `empty_row_check`: a row whose terms have all left is met by all within the bounds, or by none.
-use Rattle.std.specs.Prelude.{ℕ, ◌+◌, ◌*◌, ◌^◌, ◌≤◌, ◌<◌, ◌≡◌, ◌⊎◌, Bool, not, ◌&&◌, ℤ, ◌+ℤ◌, ◌-ℤ◌, Float}
-use Rattle.std.proofs.Common.{arith, sym, ◌∙◌}
-use Rattle.std.proofs.Math.Path.{refl, ap, subst}
-use Rattle.std.proofs.Math.Logic.{inl, inr}
-use Rattle.std.proofs.Math.Bool.{true, false}
-use mathlib.Core.List.{List, [], ◌∷◌}
+use Rattle.std.specs.Prelude.{ℕ, ◌≡◌, Bool, ℤ, Float}
+use Rattle.std.proofs.Math.Bool.{true}
+use mathlib.Core.List.{List, []}
 use Rattle.std.proofs.Math.Dec.{T}
-use Rattle.std.proofs.Math.IntN.{pos}
 use Rattle.std.proofs.Math.ListN.{length}
-use Rattle.std.specs.Float.Ieee.{eq}
-use Rattle.floats.specs.Num.{0f, is_finite, abs}
-use Rattle.floats.specs.Zed.{P, N, A, ext, add_parts, sub_parts}
-use Rattle.floats.specs.Points.{int, Whole, Is}
-use Rattle.floats.specs.WholeRounding.{Tol}
-use Rattle.cdouble.specs.Double.{from, value}
-use Rattle.tolerances.specs.Tol.{Term, outside, slack_min, slack_max, row_tolerance, trivial_verdict, says_true, violated, at, implied_from, implied_slack}
+use Rattle.floats.specs.Zed.{P, A}
+use Rattle.floats.specs.Points.{int}
+use Rattle.cdouble.specs.Double.{value}
+use Rattle.tolerances.specs.Tol.{Term, outside, slack_min, slack_max, row_tolerance, trivial_verdict, says_true, at, implied_slack}
 use Rattle.tolerances.specs.Budget.{row_tol}
 use Rattle.definition.specs.Model.{Model, op_of, rhs_of, written, Row}
-use Rattle.definition.specs.Work.{Work, Step, fixed, drop_row}
+use Rattle.definition.specs.Work.{Work, fixed}
 use Rattle.definition.specs.Singles.{empty_row_check, fixed_value}
 use Rattle.best_kept.specs.PointSet.{PointSet}
-use Rattle.points_kept.specs.Statements.{dot, Within}
-use Rattle.points_kept.specs.Integers.{eq_parts}
-use Rattle.definition.specs.Choices.{both}
-use Rattle.definition.specs.Tests.{and, taking, chosen}
-use Rattle.points_kept.specs.WholeFloats.{zero_is, sum, mag_abs, tolerance}
-use Rattle.best_kept.specs.Invariant.{Sided, RowSided, Agrees, GoodW, Each, stopped, went}
-use Rattle.best_kept.specs.Changes.{drop_ok}
-use Rattle.best_kept.specs.WorkingRow.{met_in, AtWork, point_meets}
-use Rattle.best_kept.specs.Written.{written_length, written_ok}
-use Rattle.points_kept.specs.ImpliedSlack.{Slack, implied_from_lem}
-use Rattle.best_kept.specs.Verdicts.{inside_ok, outside_ok, verdict_true, verdict_none}
+use Rattle.points_kept.specs.Statements.{Within}
+use Rattle.points_kept.proofs.WholeFloats.{tolerance}
+use Rattle.best_kept.specs.Invariant.{Sided, RowSided, GoodW}
+use Rattle.best_kept.specs.WorkingRow.{AtWork}
 
 -- good, with the bounds of w, within which row r is met
 pub record Beside (M : Model) (Sought : PointSet) (r : ℕ) (w x : Work) : Type 0 where
@@ -39,90 +25,16 @@ pub record Beside (M : Model) (Sought : PointSet) (r : ℕ) (w x : Work) : Type 
   pub elo : x.elo ≡ w.elo
   pub ehi : x.ehi ≡ w.ehi
 
-pub good_of : {M : Model} {Sought : PointSet} {r : ℕ} {w : Work} {s : Step} → Each M Sought (Beside M Sought r w) s → Each M Sought (GoodW M Sought) s
-good_of (stopped n) = stopped n
-good_of (went b) = went b.good
-
 module _ {M : Model} {Sought : PointSet} {w : Work} {r : ℕ} {row : Row} (σ : AtWork M Sought w r row) (e : row.terms ≡ []) where
-  abbrev B : Float
+  abbrev pub B : Float
   B = rhs_of M r
 
-  abbrev TS : List Term
+  abbrev pub TS : List Term
   TS = written M r
 
-  -- the values that the row is judged at, as numbers, agree with the fixed variables
-  X : ℕ → ℤ
-  X v = int (fixed_value w v)
-
-  vals : (v : ℕ) → v < length M.lower → Is (fixed_value w v) (X v)
-  unfolding X fixed_value
-  vals v h = record { whole = both Whole (fixed w v) (σ.good.interval v h).lo.whole zero_is.whole; is = refl }
-
-  sizes : (v : ℕ) → v < length M.lower → A (X v) ≤ 2 ^ 20
-  unfolding X fixed_value
-  sizes v h = both (λ (y : Float). A (int y) ≤ 2 ^ 20) (fixed w v) (σ.good.interval v h).lo.small (omega (arith, ap P zero_is.is, ap N zero_is.is))
-
-  agrees : Agrees w.elo w.ehi X
-  unfolding X fixed_value fixed
-  agrees v f = ap int (chosen (eq (at w.elo v) (at w.ehi v) && is_finite (at w.elo v)) (at w.elo v) 0f f)
-
-  -- the implied slack is the row's side, which nothing is left of
-  short : length TS ≤ 256
-  short = omega (arith, written_length M σ.pure r σ.range, σ.pure.numbers.terms r σ.range)
-
-  slack_is : Slack (length M.lower) (fixed_value w) X vals sizes (int B -ℤ dot X TS) (0 + length TS) (implied_from (fixed_value w) (from B) (abs B) TS)
-  unfolding from
-  slack_is =
-      let b = σ.pure.numbers.rhs r σ.range in
-      let m = mag_abs b in
-      implied_from_lem (length M.lower) (fixed_value w) X vals sizes TS 0 (int B) _ _ (omega (arith, short)) (written_ok M σ.pure r σ.range)
-      (record {
-        d = record { hi = record { whole = b.whole; is = refl }; lo = zero_is };
-        small = omega (arith, b.small);
-        mag = record { whole = m.whole; nonneg = m.nonneg; small = omega (arith, m.small) };
-      })
-
-  value_is : Is (implied_slack (fixed_value w) B TS).0 σ.ok.b
-  unfolding implied_slack value dot
-  value_is =
-      let s = sum (2 ^ 40 + (0 + length TS) * 2 ^ 35) 0 slack_is.d.hi slack_is.d.lo slack_is.small (omega arith) (omega (arith, short)) in
-      let q : dot X TS +ℤ σ.ok.b ≡ pos 0 +ℤ int B = σ.ok.same X agrees ∙ ap (λ (ts : List Term). dot X ts +ℤ int B) e in
-      record {
-        whole = s.whole;
-        is = s.is ∙ ext _ _ (omega (arith, eq_parts q, add_parts (dot X TS) σ.ok.b, add_parts (pos 0) (int B), sub_parts (int B) (dot X TS), add_parts (int B -ℤ dot X TS) (pos 0)));
-      }
-
-  tol_is : Tol (row_tolerance M.feas (implied_slack (fixed_value w) B TS).1)
-  unfolding implied_slack
-  tol_is = row_tol (tolerance σ.pure.numbers.feas) (record { whole = slack_is.mag.whole; small = omega (arith, slack_is.mag.small, short) }) slack_is.mag.nonneg
-
   -- the two tests of `row_violation`
-  abbrev triv : Bool
+  abbrev pub triv : Bool
   triv = says_true (trivial_verdict M.feas (op_of M r) (length TS) B)
 
-  abbrev out : Bool
+  abbrev pub out : Bool
   out = outside (implied_slack (fixed_value w) B TS).0 (slack_min (op_of M r)) (slack_max (op_of M r)) (row_tolerance M.feas (implied_slack (fixed_value w) B TS).1)
-
-  -- A ROW OF NO TERM keeps the invariant, and the bounds
-  pub empty_keeps : Each M Sought (Beside M Sought r w) (empty_row_check M r row w)
-  unfolding empty_row_check violated dot drop_row
-  empty_keeps =
-      taking (Each M Sought (Beside M Sought r w)) (not triv && out)
-      (λ t. stopped (λ x p.
-      let m = subst (λ (ts : List Term). Sided (op_of M r) (dot x ts) σ.ok.b) e (point_meets σ x p) in
-      outside_ok (op_of M r) _ _ σ.ok.b value_is tol_is (and (not triv) out t).1 m.below m.above))
-      (λ t. went (record { good = drop_ok M r row w σ.range σ.good (λ x h. met x h (cases triv out t)); met = λ x h. met x h (cases triv out t); elo = refl; ehi = refl }))
-    where
-      cases : (p q : Bool) → T (not (not p && q)) → T p ⊎ T (not q)
-      cases true q n = inl tt
-      cases false q n = inr n
-
-      empty : (ts : List Term) → T (says_true (trivial_verdict M.feas (op_of M r) (length ts) B)) → (x : ℕ → ℤ) → Sided (op_of M r) (dot x ts) (int B)
-      empty [] t x = verdict_true M σ.pure (op_of M r) B (σ.pure.numbers.rhs r σ.range) t
-      empty (u ∷ ts) t x = absurd (verdict_none M σ.pure (op_of M r) (length ts) B (σ.pure.numbers.rhs r σ.range).whole t)
-
-      met : (x : ℕ → ℤ) → Within (length M.lower) w.elo w.ehi x → T triv ⊎ T (not out) → RowSided M r x
-      met x h (inl t) = empty TS t x
-      met x h (inr n) =
-          let k = inside_ok (op_of M r) _ _ σ.ok.b value_is tol_is n in
-          met_in σ x h (subst (λ (ts : List Term). Sided (op_of M r) (dot x ts) σ.ok.b) (sym e) (record { below = k.0; above = k.1 }))

@@ -1,2 +1,3 @@
 -- What is proved of the definition by computing it.
 pub mod Cases
+pub mod Edges

@@ -18,9 +18,6 @@ pub mod Ranks
 pub mod Points
 pub mod Compare
 pub mod WholeRounding
-pub mod Quotients
-pub mod Slacks
 pub mod Extremes
-pub mod Growth
 pub mod Rows
 pub mod Relaxed

@@ -5,12 +5,14 @@ use Rattle.std.specs.Float.{binary64, nan, inf, fin}
 use Rattle.std.specs.Float.Ieee.{lt, le, fits, of_bits}
 use Rattle.std.specs.Float.Ieee.Bits.{is_true}
 use Rattle.floats.specs.Num.{choose, ◌⊕◌, ◌⊖◌, ◌⊗◌, ◌⊘◌, 0f, 1f, ½f, abs, maxf, floor, ceil}
-use Rattle.floats.specs.Points.{Held, fits_add, fits_sub, fits_mul, fits_div}
+use Rattle.floats.specs.Points.{Held}
+use Rattle.floats.proofs.Points.{fits_add, fits_sub, fits_mul, fits_div}
 use Rattle.floats.specs.Order.{le_real}
 use Rattle.floats.specs.Points.{◌≼◌}
-use Rattle.floats.specs.Compare.{lt_le, le_trans}
-use Rattle.floats.specs.Meaning.{maxf_first, maxf_second}
-use Rattle.floats.specs.Relaxed.{NotNeg, notneg_of, notneg_abs, notneg_max, notneg_add, notneg_mul, notneg_div, notneg_less_half, floor_stays, ceil_stays, upper_stays, lower_stays}
+use Rattle.floats.proofs.Compare.{lt_le, le_trans}
+use Rattle.floats.proofs.Meaning.{maxf_first, maxf_second}
+use Rattle.floats.specs.Relaxed.{NotNeg}
+use Rattle.floats.proofs.Relaxed.{notneg_of, notneg_abs, notneg_max, notneg_add, notneg_mul, notneg_div, notneg_less_half, floor_stays, ceil_stays, upper_stays, lower_stays}
 use Rattle.tolerances.specs.Tol.{ROUNDOFF_FLOOR, row_tolerance, slack_margin, slack_tol}
 use Rattle.definition.specs.Params.{params}
 use Rattle.definition.specs.Model.{Model, Row, nnz}

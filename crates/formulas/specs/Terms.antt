@@ -3,7 +3,7 @@ use Rattle.std.specs.Prelude.{◌≡◌, ℕ, suc, ◌+◌, ◌%◌, ◌^◌, �
 use Rattle.std.proofs.Common.{◌∙◌, add-one, mod-eq_of_lt}
 use Rattle.std.specs.Float.Ieee.{lt}
 use Rattle.floats.specs.Num.{choose, ◌⊕◌, ◌⊗◌, gt, 0f, is_finite, abs}
-use Rattle.floats.specs.Compare.{lt_turns}
+use Rattle.floats.proofs.Compare.{lt_turns}
 use Rattle.tolerances.specs.Tol.{Term}
 use Rattle.definition.specs.declared.Activity.{Activity}
 use Rattle.definition.specs.Model.{Model, range_min, range_max}

@@ -1,10 +1,7 @@
 -- Presolve keeps exactly the points of a model of whole numbers alone. `Statements` says it, `Reading` how it reads; `Theorem` has it. And the activity of a
 -- row that is not rewritten is exact, in every state that presolve reaches on such a model: `ActivityEverywhere` has it.
 pub mod Statements
-pub mod Integers
-pub mod Reading
 -- whole floats, lists of terms, and the invariant over the working state
-pub mod Margins
 pub mod WholeFloats
 pub mod Terms
 pub mod Invariant
@@ -14,20 +11,15 @@ pub mod Activity
 pub mod WorkingRow
 pub mod Quotients
 pub mod Intervals
-pub mod Tightening
-pub mod Unreachable
 pub mod ImpliedBounds
 pub mod Redundancy
 pub mod Forced
 pub mod OneTerm
-pub mod SeveralTerms
 pub mod Folding
 pub mod Written
 pub mod ImpliedSlack
-pub mod Verdicts
 pub mod NoTerm
 -- the order of the steps
-pub mod Waves
 pub mod FourthCount
 pub mod Coefficients
 pub mod Rounds

@@ -8,7 +8,7 @@ use Rattle.definition.specs.Presolve.{presolve}
 use Rattle.definition.specs.Refusal.{too_short, shortest}
 use Rattle.definition.specs.Cases.{Case, cases}
 use Rattle.definition.proofs.Cases.{case_accepted, case_answered}
-use Rattle.definition.specs.Edges.{longer_accepted}
+use Rattle.definition.proofs.Edges.{longer_accepted}
 use Rattle.output.specs.Results.{Results}
 use Rattle.presolve.specs.declared.Answer.{Answer}
 use Rattle.presolve.specs.Promise.{Working, lengths, answer_is, outcome, results_after, Promise}

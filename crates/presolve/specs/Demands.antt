@@ -14,12 +14,13 @@ use Rattle.definition.specs.Model.{Model, is_int, Emit, Reduced}
 use Rattle.definition.specs.Presolve.{presolve}
 use Rattle.definition.specs.Refusal.{refusal}
 use Rattle.rows_kept.specs.Statements.{Fate, entries_of, occurs, count_below, no_entry}
-use Rattle.rows_kept.specs.Theorems as kept
+use Rattle.rows_kept.proofs.Theorems as kept
 use Rattle.points_kept.specs.Statements.{WholeNumbers, Point, terms_of, MeetsReduced, WholeReduced, Exact}
 use Rattle.best_kept.specs.Objective.{WholeObjective, SameFeasible, SameLeast, BestKept}
-use Rattle.points_kept.specs.Theorem.{points_kept}
-use Rattle.best_kept.specs.BestKept.{best_kept}
-use Rattle.points_kept.specs.ActivityEverywhere.{WholeBounds, answer_whole}
+use Rattle.points_kept.proofs.Theorem.{points_kept}
+use Rattle.best_kept.proofs.BestKept.{best_kept}
+use Rattle.points_kept.specs.ActivityEverywhere.{WholeBounds}
+use Rattle.points_kept.proofs.ActivityEverywhere.{answer_whole}
 use Rattle.definition.specs.Accepted.{Shaped, accepted_shaped}
 use Rattle.refuse.specs.Of.{model_of}
 use Rattle.view.specs.Lists.{length_map}

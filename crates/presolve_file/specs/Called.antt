@@ -10,7 +10,7 @@ use Rattle.definition.specs.Model as definition
 use Rattle.definition.specs.Model.{Model, Emit, done}
 use Rattle.definition.specs.Presolve.{presolve}
 use Rattle.definition.specs.Refusal.{Lent, refusal}
-use Rattle.rows_kept.specs.Theorems.{bounds_lengths}
+use Rattle.rows_kept.proofs.Theorems.{bounds_lengths}
 use Rattle.row_terms.specs.RowMark.{mark}
 use Rattle.emit.specs.Filling.{over}
 use Rattle.output.specs.declared.Reduced.{Reduced}

@@ -14,9 +14,9 @@ use Rattle.definition.specs.Model.{Model, Emit, Reduced, done, from}
 use Rattle.definition.specs.Presolve.{presolve}
 use Rattle.definition.specs.Refusal.{Lent, some_below, start_falls, starts_wrong, bound_wrong, bounds_wrong, obj_wrong, coeff_wrong, numbers_wrong, tolerance_wrong, tolerances_wrong, refusal}
 use Rattle.rows_kept.specs.Statements.{All, no_one, each, Spans}
-use Rattle.rows_kept.specs.Numbers.{finite_number}
+use Rattle.rows_kept.proofs.Numbers.{finite_number}
 use Rattle.rows_kept.specs.NoNan.{Numbers}
-use Rattle.rows_kept.specs.Theorems.{no_eq_rewritten, no_nan, no_nan_terms}
+use Rattle.rows_kept.proofs.Theorems.{no_eq_rewritten, no_nan, no_nan_terms}
 use Rattle.definition.specs.Accepted.{accepted_shaped}
 use Rattle.refuse.specs.Laws.{none_below}
 use Rattle.refuse.specs.Rows.{neither, lengths_agree}

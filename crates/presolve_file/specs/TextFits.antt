@@ -13,7 +13,7 @@ use Rattle.definition.specs.Model.{Model, Emit, Reduced, Answer, infeasible, don
 use Rattle.definition.specs.Presolve.{presolve}
 use Rattle.definition.specs.Refusal as call
 use Rattle.rows_kept.specs.Statements.{All, no_one, each, Rising, ends, rises, rows_of, Consecutive, no_span, skips, spans}
-use Rattle.rows_kept.specs.Theorems.{waves_bounded, waves_bounded_infeasible, emitted_rising, kept_rising, conserved, bounds_lengths, terms_fit, spans_follow_lem}
+use Rattle.rows_kept.proofs.Theorems.{waves_bounded, waves_bounded_infeasible, emitted_rising, kept_rising, conserved, bounds_lengths, terms_fit, spans_follow_lem}
 use Rattle.space.specs.declared.Shape.{Shape}
 use Rattle.view.specs.Call.{Call}
 use Rattle.refuse.specs.Accepted.{call_of}

@@ -16,9 +16,11 @@ use Rattle.definition.specs.Presolve.{presolve}
 use Rattle.rows_kept.specs.Statements.{All, no_one, each}
 use Rattle.definition.specs.Choices.{both}
 use Rattle.rows_kept.specs.Kept.{Kept, Changed, folded, tightened}
-use Rattle.rows_kept.specs.AllRows.{AllRows, set_all, snoc_all, read_size}
+use Rattle.rows_kept.specs.AllRows.{AllRows}
+use Rattle.rows_kept.proofs.AllRows.{set_all, snoc_all, read_size}
 use Rattle.rows_kept.specs.Outs.{Goes, skipped, before, emptied, given, rewrites}
-use Rattle.rows_kept.specs.Whole.{Read, unread, queues, drops, Emitted, of_done}
+use Rattle.rows_kept.specs.Whole.{Read, unread, queues, drops, Emitted}
+use Rattle.rows_kept.proofs.Whole.{of_done}
 
 -- ---- lists of which each has a property
 module _ {A : Type 0} {P : A → Type 0} where

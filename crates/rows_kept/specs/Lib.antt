@@ -12,7 +12,6 @@ pub mod Whole
 pub mod States
 pub mod WithActivity
 pub mod Looks
-pub mod Lists
 pub mod Fates
 pub mod Counted
 pub mod Given
@@ -22,5 +21,3 @@ pub mod Sizes
 pub mod NoNan
 pub mod Coefficients
 pub mod Zeros
-pub mod Theorems
-pub mod Caps

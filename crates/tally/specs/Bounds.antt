@@ -18,7 +18,8 @@ use Rattle.definition.specs.Implied.{implied, implied_term, implied_bounds}
 use Rattle.definition.specs.Dual.{dual_var, dual_from, dual_fix}
 use Rattle.definition.specs.Rounds.{dual_step}
 use Rattle.definition.specs.Choices.{both, taking}
-use Rattle.rows_kept.specs.Steps.{Each, stopped, went, then}
+use Rattle.rows_kept.specs.Steps.{Each, stopped, went}
+use Rattle.rows_kept.proofs.Steps.{then}
 use Rattle.tally.specs.Tallied.{Tallied, tightens_one, fixes_one, recount, more, queue_one}
 
 module _ (M : Model) {n k : ℕ} where

@@ -13,7 +13,7 @@ use Rattle.definition.specs.Rewrites.{Form, le_form, ge_form, no_form, form_of, 
 use Rattle.definition.specs.Tighten.{Rewriting, queued, rewrite_step, rewrite_loop, tighten_form, tighten_by, tighten_row, tighten_from, tighten_binary_coeffs}
 use Rattle.definition.specs.Choices.{both, taking}
 use Rattle.rows_kept.specs.Kept.{Sided, le, ge, tightened}
-use Rattle.rows_kept.specs.RowSteps.{changed_kept}
+use Rattle.rows_kept.proofs.RowSteps.{changed_kept}
 use Rattle.tally.specs.Tallied.{Short, Tallied, rewrites_one, recount, more, queue_one, change_one}
 use Rattle.tally.specs.Rows.{AllShort, short_kept}
 

@@ -14,10 +14,12 @@ use Rattle.definition.specs.Forcing.{fix_all}
 use Rattle.definition.specs.Wave.{several_terms, by_count, wave_row, wave_rows, wave, waves}
 use Rattle.definition.specs.Tighten.{set_coeff}
 use Rattle.definition.specs.Choices.{both}
-use Rattle.rows_kept.specs.Steps.{Each, stopped, went, then}
+use Rattle.rows_kept.specs.Steps.{Each, stopped, went}
+use Rattle.rows_kept.proofs.Steps.{then}
 use Rattle.rows_kept.specs.Kept.{folded}
-use Rattle.rows_kept.specs.RowSteps.{RowKept, length_swap, changed_kept}
-use Rattle.rows_kept.specs.Sizes.{written_short}
+use Rattle.rows_kept.specs.RowSteps.{RowKept}
+use Rattle.rows_kept.proofs.RowSteps.{length_swap, changed_kept}
+use Rattle.rows_kept.proofs.Sizes.{written_short}
 use Rattle.tally.specs.Tallied.{Short, Tallied, drops_one, recount, more, fewer, each_more, begin_wave, queue_fits, take_one, change_one}
 use Rattle.tally.specs.Bounds.{implied_all, singleton_one, fix_all_lem}
 

@@ -5,7 +5,7 @@ use Rattle.definition.specs.declared.Counts.{Counts}
 use Rattle.definition.specs.Model.{Row, dropped, tightened, fixed_one, rewrote, passed}
 use Rattle.definition.specs.Work.{Work, Step, no_row}
 use Rattle.rows_kept.specs.Steps.{Each, stopped, went}
-use Rattle.rows_kept.specs.AllRows.{set_all}
+use Rattle.rows_kept.proofs.AllRows.{set_all}
 use Rattle.view.specs.Inv.{marked}
 use Rattle.view.specs.Lists.{marked_le, marked_set, marked_clear}
 

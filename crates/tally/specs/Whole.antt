@@ -18,9 +18,11 @@ use Rattle.definition.specs.Rounds.{after_waves, rounds}
 use Rattle.definition.specs.Emit.{Out, Final, fails, final, out_one, out_from, answer_of}
 use Rattle.definition.specs.Presolve.{finish, start, after_rounding, presolve}
 use Rattle.definition.specs.Choices.{both}
-use Rattle.rows_kept.specs.Steps.{Each, stopped, went, then}
-use Rattle.rows_kept.specs.Outs.{Goes, skipped, before, missed, emptied, given, rewrites, one_goes}
-use Rattle.rows_kept.specs.AllRows.{snoc_all}
+use Rattle.rows_kept.specs.Steps.{Each, stopped, went}
+use Rattle.rows_kept.proofs.Steps.{then}
+use Rattle.rows_kept.specs.Outs.{Goes, skipped, before, missed, emptied, given, rewrites}
+use Rattle.rows_kept.proofs.Outs.{one_goes}
+use Rattle.rows_kept.proofs.AllRows.{snoc_all}
 use Rattle.view.specs.Inv.{marked}
 use Rattle.tally.specs.Tallied.{AtMost, at_most, drops_one, Short, Holds, Tallied, more}
 use Rattle.tally.specs.Bounds.{dual_step_lem}

@@ -9,12 +9,14 @@ use Rattle.floats.specs.Zed.{P, A, ◌⊑◌, side, sub_parts}
 use Rattle.floats.specs.Value.{mags, sign, units, Num}
 use Rattle.floats.specs.Norm.{Parts, parts_units}
 use Rattle.floats.specs.Order.{num_real, rank, rank_num, nlt→⊑}
-use Rattle.floats.specs.Meaning.{minf_first, minf_second}
+use Rattle.floats.proofs.Meaning.{minf_first, minf_second}
 use Rattle.floats.specs.Ranks as K
 use Rattle.floats.specs.Ranks.{sub_result, held_of}
-use Rattle.floats.specs.Points.{int, Bounded, Is, of_is, add_is, of_units, whole_num, abs_is}
-use Rattle.floats.specs.WholeRounding.{NonNeg, Tol, nonneg_real, nonneg_rank, tol_real, tol_of, tol_num, tol_most, tol_least, small_num, zero_held, link, sub_above, sub_below}
-use Rattle.floats.specs.Slacks.{product_nonneg, product_most, whole_nonneg, roundoff, eighths_held, most_units, max_tol, pos_parts}
+use Rattle.floats.specs.Points.{int, Bounded, Is}
+use Rattle.floats.proofs.Points.{of_is, add_is, of_units, whole_num, abs_is}
+use Rattle.floats.specs.WholeRounding.{NonNeg, Tol}
+use Rattle.floats.proofs.WholeRounding.{nonneg_real, nonneg_rank, tol_real, tol_of, tol_num, tol_most, tol_least, small_num, zero_held, link, sub_above, sub_below}
+use Rattle.floats.proofs.Slacks.{product_nonneg, product_most, whole_nonneg, roundoff, eighths_held, most_units, max_tol, pos_parts}
 use Rattle.floats.specs.Num.{choose, ◌⊕◌, ◌⊖◌, ◌⊗◌, 2f, ½f, abs, is_finite, minf, of_count}
 use Rattle.floats.specs.Whole as W
 use Rattle.tolerances.specs.Tol.{ROUNDOFF_FLOOR, UNIT_ROUNDOFF, row_tolerance, bound_tolerance, slack_margin, slack_tol}

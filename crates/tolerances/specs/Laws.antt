@@ -5,12 +5,12 @@ use Rattle.std.specs.Float.Ieee.{lt, eq, round, of_int, of_bits}
 use Rattle.floats.specs.Num.{◌⊕◌, ◌⊖◌, ◌⊗◌, ◌⊘◌, 0f, ½f, is_finite, abs, maxf, floor, ceil}
 use Rattle.floats.specs.Zed.{P, N, A, ◌⊑◌, ◌⊏◌}
 use Rattle.floats.specs.Points.{int, Whole, Bounded, Held, ◌≼◌, ◌≺◌, ◌⊀◌, Is}
-use Rattle.floats.specs.Points as points
-use Rattle.floats.specs.Compare as compare
+use Rattle.floats.proofs.Points as points
+use Rattle.floats.proofs.Compare as compare
 use Rattle.floats.specs.WholeRounding.{NonNeg, Tol}
-use Rattle.floats.specs.WholeRounding as rounding
-use Rattle.floats.specs.Quotients as quotients
-use Rattle.floats.specs.Slacks as slacks
+use Rattle.floats.proofs.WholeRounding as rounding
+use Rattle.floats.proofs.Quotients as quotients
+use Rattle.floats.proofs.Slacks as slacks
 use Rattle.tolerances.specs.Tol.{slack_tol, ROUNDOFF_FLOOR}
 use Rattle.tolerances.specs.Budget as budgets
 

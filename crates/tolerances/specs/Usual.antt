@@ -4,8 +4,8 @@ use Rattle.std.proofs.Common.{ap, sym, subst}
 use Rattle.std.specs.Float.Ieee.{le}
 use Rattle.floats.specs.Num.{choose, ◌⊗◌, is_finite, abs}
 use Rattle.floats.specs.Order.{le_real}
-use Rattle.floats.specs.Compare.{le_turns}
-use Rattle.floats.specs.Meaning.{maxf_first}
+use Rattle.floats.proofs.Compare.{le_turns}
+use Rattle.floats.proofs.Meaning.{maxf_first}
 use Rattle.tolerances.specs.Tol.{ROUNDOFF_FLOOR, row_tolerance, bound_tolerance}
 
 unfoldable pub usual : Float → Float → Bool

@@ -8,7 +8,8 @@ use Rattle.std.proofs.Math.ListN.{get_or, get_or-eq_default}
 use Rattle.std.specs.Float.{nan, binary64}
 use Rattle.std.specs.Float.Ieee.{fits, le, div, of_bits, of_int, round}
 use Rattle.floats.specs.Num.{choose, 0f, abs}
-use Rattle.floats.specs.Points.{is_whole, Is, of_is}
+use Rattle.floats.specs.Points.{is_whole, Is}
+use Rattle.floats.proofs.Points.{of_is}
 use Rattle.tolerances.specs.Tol.{at}
 use Rattle.definition.specs.Choices.{chosen, left}
 use Rattle.points_kept.specs.Statements.{HUNDREDTH}

@@ -8,9 +8,10 @@ use Rattle.std.specs.Float.Ieee.{fits, eq, le}
 use Rattle.floats.specs.Num.{floor, is_finite, abs}
 use Rattle.floats.specs.Zed.{P, N, A, ext}
 use Rattle.floats.specs.Value.{Num, units, eq_units, bool_eq}
-use Rattle.floats.specs.Points.{int, is_whole, Whole, Is, of_units, le_is, abs_is}
-use Rattle.floats.specs.Meaning.{floor_value}
-use Rattle.floats.specs.Growth.{floor_fixes}
+use Rattle.floats.specs.Points.{int, is_whole, Whole, Is}
+use Rattle.floats.proofs.Points.{of_units, le_is, abs_is}
+use Rattle.floats.proofs.Meaning.{floor_value}
+use Rattle.floats.proofs.Growth.{floor_fixes}
 use Rattle.tolerances.specs.Tol.{at}
 use Rattle.whole_numbers.specs.Fault.{first, whole_within, number_off}
 use Rattle.whole_numbers.specs.First.{alike}

@@ -2,7 +2,7 @@
 use borrow.Author.Rules.{rules}
 use mathlib.Core.Path.{sym, ap, ◌∙◌}
 use lib.Ieee.{neg}
-use Rattle.floats.specs.Meaning.{ceil_mirror}
+use Rattle.floats.proofs.Meaning.{ceil_mirror}
 use Rattle.floats.proofs.ceil.Goals as goal
 
 pub returns : goal.returns

@@ -1,7 +1,7 @@
 -- `smaller` computes its definition, by its two tests.
 use mathlib.Core.Path.{sym, ◌∙◌}
 use Rattle.floats.specs.Num.{minf, choose}
-use Rattle.floats.specs.Meaning.{minf_first, minf_second}
+use Rattle.floats.proofs.Meaning.{minf_first, minf_second}
 use Rattle.floats.proofs.Facts.{ne_self}
 use Rattle.floats.proofs.smaller.Goals as goal
 

@@ -1,0 +1,24 @@
+-- The theorems, each file named as the definitions that it is about.
+pub mod Steps
+pub mod Numbers
+pub mod Boxes
+pub mod RowSteps
+pub mod Waves
+pub mod AllWaves
+pub mod Outs
+pub mod Whole
+pub mod States
+pub mod Looks
+pub mod Lists
+pub mod Fates
+pub mod Counted
+pub mod Given
+pub mod GivenBounds
+pub mod AllRows
+pub mod EqRows
+pub mod Sizes
+pub mod NoNan
+pub mod Coefficients
+pub mod Zeros
+pub mod Theorems
+pub mod Caps
