@@ -4,7 +4,6 @@ use Rattle.std.specs.Prelude.{ℕ, ◌+◌, ◌≤◌, ◌<◌, zero, suc, refl,
 use Rattle.std.proofs.Common.{arith, ap, sym, ◌∙◌, nltb→le, eqb→eq, length-set, get_or-set_same, get_or-set_other}
 use Rattle.std.proofs.Math.Path.{subst}
 use Rattle.std.proofs.Math.Logic.{inl, inr}
-use Rattle.std.proofs.Math.Option.{none}
 use Rattle.std.proofs.Math.Dec.{T, ltb→lt, eqb_refl}
 use Rattle.std.proofs.Math.ListN.{length, get_or-eq_default}
 use Rattle.std.specs.Float.Ieee.{nan, eq}
@@ -13,7 +12,7 @@ use Rattle.floats.specs.Zed.{P, N, A, ◌⊑◌, ext}
 use Rattle.floats.specs.Points.{int}
 use Rattle.tolerances.specs.Tol.{at, Term}
 use Rattle.tolerances.specs.Laws.{laws}
-use Rattle.definition.specs.Model.{with_terms, Model, written, op_of, rhs_of, Row}
+use Rattle.definition.specs.Model.{with_terms, Model, op_of, rhs_of, Row}
 use Rattle.definition.specs.Work.{Work, Step, stop, ◌>>=◌, no_row}
 use Rattle.best_kept.specs.PointSet.{PointSet}
 use Rattle.points_kept.specs.Statements.{PureInteger, Meets, dot, Within, Point}

@@ -2,12 +2,8 @@
 -- x = 0, y = 3 is one of those that vanish; the least objective, -5, is kept.
 use Rattle.std.specs.Prelude.{ℕ, ◌-◌, ◌*◌, ℤ, pos}
 use mathlib.Core.List.Memᴰ
-use Rattle.std.specs.Float.Ieee.{le, round}
-use Rattle.floats.specs.Points.{int}
-use Rattle.tolerances.specs.Tol.{at}
-use Rattle.definition.specs.Model.{Model, from}
+use Rattle.definition.specs.Model.{Model}
 use Rattle.definition.specs.DualCases.{rise_then_fall}
-use Rattle.points_kept.proofs.Mixed.{two}
 
 abbrev pub riser : Model
 riser = rise_then_fall.model

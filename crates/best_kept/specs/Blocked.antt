@@ -1,6 +1,6 @@
 -- WHAT THE FLAGS OF DUAL FIXING SAY: a variable's flag is set by every term of it through which a move could hurt a row. So where it is not set, the variable's coefficients in a
 -- row at work are of the sign that lets it move: to fall, positive ones where the row has an upper side, and none that is positive where it has a lower one.
-use Rattle.std.specs.Prelude.{ℕ, ◌≡◌, Bool, true, not, List, T, get_or, set}
+use Rattle.std.specs.Prelude.{ℕ, ◌≡◌, Bool, true, not, List, T, get_or}
 use Rattle.floats.specs.Num.{choose, gt, 0f, is_finite}
 use Rattle.tolerances.specs.Tol.{Term}
 use Rattle.definition.specs.Model.{Row}

@@ -4,7 +4,7 @@ use Rattle.std.specs.Prelude.{◌⊎◌, Bool}
 use Rattle.std.proofs.Math.Dec.{T}
 use Rattle.definition.specs.Model.{Model, Row}
 use Rattle.definition.specs.Work.{Work}
-use Rattle.definition.specs.Tighten.{Rewriting, tighten_binary_coeffs}
+use Rattle.definition.specs.Tighten.{Rewriting}
 use Rattle.best_kept.specs.PointSet.{PointSet}
 use Rattle.points_kept.specs.Statements.{PureInteger}
 use Rattle.best_kept.specs.Invariant.{RowOk, GoodW}

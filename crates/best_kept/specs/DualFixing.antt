@@ -1,8 +1,8 @@
 -- DUAL FIXING KEEPS A BEST POINT: to lower a variable that no row needs high and no cost wants high breaks no row and makes no point dearer, and so does raising
 -- one that no row needs low and no cost wants low. The moved point still meets each row at work, and a row that is gone is met by all within the bounds. The flags
 -- are set once for a pass, and fixing leaves the rows, so they serve every variable of the pass, each within the bounds that the last one left.
-use Prim.Native.Nat.{ℕ, suc, ◌^◌, ◌<◌}
-use Rattle.std.specs.Prelude.{◌≡◌, ◌⊎◌, T, ℤ, get_or, set, Float}
+use Prim.Native.Nat.{ℕ, ◌^◌, ◌<◌}
+use Rattle.std.specs.Prelude.{◌≡◌, ◌⊎◌, T, ℤ, get_or, Float}
 use Rattle.std.proofs.Math.Bool.{Bool, not}
 use mathlib.Core.List.{List}
 use Rattle.std.proofs.Math.ListN.{length}
@@ -13,7 +13,6 @@ use Rattle.floats.specs.Points.{int, Bounded}
 use Rattle.tolerances.specs.Tol.{Term, at}
 use Rattle.definition.specs.Model.{Model, Row}
 use Rattle.definition.specs.Work.{Work, no_row}
-use Rattle.definition.specs.Bounds.{fix}
 use Rattle.definition.specs.Dual.{bad_dec, bad_inc, none_bad}
 use Rattle.points_kept.specs.Statements.{PureInteger, Within}
 use Rattle.points_kept.specs.Terms.{All}

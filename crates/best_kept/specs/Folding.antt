@@ -2,16 +2,14 @@
 use Prim.Native.Nat.{ℕ, zero, ◌+◌, ◌-◌, ◌*◌, ◌<◌}
 use Rattle.std.specs.Prelude.{◌≡◌, ◌≢◌, List, T, ℤ, ◌*ℤ◌}
 use Rattle.std.proofs.Math.Path.{ap}
-use Rattle.std.proofs.Math.Bool.{not}
 use Rattle.std.proofs.Math.ListN.{length, get_or}
 use Rattle.floats.specs.Zed.{P, N, A}
 use Rattle.floats.specs.Points.{int}
-use Rattle.tolerances.specs.Tol.{Term, at}
+use Rattle.tolerances.specs.Tol.{Term}
 use Rattle.definition.specs.Model.{Model, Row}
-use Rattle.definition.specs.Work.{Work, no_term, fixed}
-use Rattle.definition.specs.Folds.{swap_remove, fold_fixed}
+use Rattle.definition.specs.Work.{Work, no_term}
+use Rattle.definition.specs.Folds.{swap_remove}
 use Rattle.best_kept.specs.PointSet.{PointSet}
-use Rattle.points_kept.proofs.WholeFloats.{sum}
 use Rattle.points_kept.specs.Terms.{All, NonZero}
 use Rattle.best_kept.specs.Invariant.{RowOk, GoodW}
 

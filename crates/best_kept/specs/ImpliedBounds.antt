@@ -10,7 +10,6 @@ use Rattle.tolerances.specs.Tol.{Term}
 use Rattle.definition.specs.declared.Activity.{Activity}
 use Rattle.definition.specs.Model.{Model, Row}
 use Rattle.definition.specs.Work.{Work}
-use Rattle.definition.specs.Implied.{implied, implied_bounds}
 use Rattle.best_kept.specs.PointSet.{PointSet}
 use Rattle.points_kept.specs.Statements.{dot, Within}
 use Rattle.points_kept.specs.Terms.{TermOk, least, most, low, high, NonZero}

@@ -1,6 +1,6 @@
 -- THE INVARIANT of the work on a model of whole numbers: bounds are whole and in order, none of the points sought is lost, each row at work says what the written
 -- row says, and each dropped one is met within the bounds.
-use Rattle.std.specs.Prelude.{ℕ, ◌+◌, ◌*◌, ◌^◌, ◌≤◌, ◌<◌, ◌≡◌, Bool, false, not, ◌&&◌, List, eqb, ℤ, pos, ◌+ℤ◌, get_or, set, Float}
+use Rattle.std.specs.Prelude.{ℕ, ◌+◌, ◌*◌, ◌^◌, ◌≤◌, ◌<◌, ◌≡◌, Bool, false, not, ◌&&◌, List, eqb, ℤ, pos, ◌+ℤ◌, get_or, Float}
 use Rattle.std.proofs.Math.Option.{none}
 use Rattle.std.proofs.Math.Dec.{T}
 use Rattle.std.proofs.Math.ListN.{length}
@@ -14,7 +14,6 @@ use Rattle.definition.specs.Model.{Model, written, op_of, rhs_of, Row}
 use Rattle.definition.specs.Work.{Work, Step, stop, next, no_row}
 use Rattle.best_kept.specs.PointSet.{PointSet}
 use Rattle.points_kept.specs.Statements.{dot, Within, Point}
-use Rattle.definition.specs.Tests.{and}
 use Rattle.points_kept.proofs.WholeFloats.{finite}
 use Rattle.points_kept.specs.Terms.{All, TermOk, Distinct}
 

@@ -3,7 +3,7 @@ use Rattle.std.specs.Prelude.{ℕ, ◌≡◌, eqb, ℤ, ◌*ℤ◌}
 use Rattle.floats.specs.Num.{choose}
 use Rattle.floats.specs.Zed.{◌⊑◌}
 use Rattle.floats.specs.Points.{int}
-use Rattle.tolerances.specs.Tol.{Term, at}
+use Rattle.tolerances.specs.Tol.{Term}
 
 -- x, but a for variable v
 abbrev pub moved : ℕ → ℤ → (ℕ → ℤ) → ℕ → ℤ

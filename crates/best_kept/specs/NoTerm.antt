@@ -11,7 +11,7 @@ use Rattle.tolerances.specs.Tol.{Term, outside, slack_min, slack_max, row_tolera
 use Rattle.tolerances.specs.Budget.{row_tol}
 use Rattle.definition.specs.Model.{Model, op_of, rhs_of, written, Row}
 use Rattle.definition.specs.Work.{Work, fixed}
-use Rattle.definition.specs.Singles.{empty_row_check, fixed_value}
+use Rattle.definition.specs.Singles.{fixed_value}
 use Rattle.best_kept.specs.PointSet.{PointSet}
 use Rattle.points_kept.specs.Statements.{Within}
 use Rattle.points_kept.proofs.WholeFloats.{tolerance}

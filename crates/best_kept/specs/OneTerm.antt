@@ -7,10 +7,10 @@ use Rattle.floats.specs.Points.{int, Bounded, Is}
 use Rattle.tolerances.specs.Tol.{at}
 use Rattle.definition.specs.Model.{Model, op_of, Row}
 use Rattle.definition.specs.Work.{Work}
-use Rattle.definition.specs.Singles.{singleton_row, new_lower, new_upper}
+use Rattle.definition.specs.Singles.{new_lower, new_upper}
 use Rattle.best_kept.specs.PointSet.{PointSet}
 use Rattle.points_kept.specs.Statements.{dot}
-use Rattle.definition.specs.Tests.{and, or}
+use Rattle.definition.specs.Tests.{or}
 use Rattle.points_kept.proofs.WholeFloats.{finite}
 use Rattle.best_kept.specs.Invariant.{Sided}
 use Rattle.best_kept.specs.WorkingRow.{AtWork}

@@ -4,16 +4,14 @@ use Prim.Native.Nat.{ℕ, ◌<◌}
 use Rattle.std.specs.Prelude.{◌≡◌, ◌⊎◌, T, ℤ, length}
 use mathlib.Core.List.Memᴰ
 use mathlib.Core.List.{List, Memᴰ}
-use Rattle.std.proofs.Math.Option.{none}
 use Rattle.floats.specs.Points.{Whole, int}
 use Rattle.tolerances.specs.Tol.{at}
 use Rattle.definition.specs.Model.{Model, written, op_of, Row, Emit, Reduced, Answer, infeasible, done}
 use Rattle.definition.specs.Work.{Work}
-use Rattle.definition.specs.Emit.{Out, Final, fails, final, out_from, answer_of, written_entry}
+use Rattle.definition.specs.Emit.{Out, Final, fails, final, written_entry}
 use Rattle.best_kept.specs.PointSet.{PointSet}
 use Rattle.points_kept.specs.Statements.{WholeReduced, PureInteger, dot, Within, Point, terms_of, Meets, MeetsReduced}
 use Rattle.best_kept.specs.Invariant.{RowSided, GoodW, NoPoint}
-use Rattle.best_kept.specs.FourthCount.{goes}
 
 -- what is answered from a state that is good for the points sought, where no coefficient is rewritten: infeasible says that there is none of them; a reduced
 -- model is of whole numbers, has all of them, and none but the model's

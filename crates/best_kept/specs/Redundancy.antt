@@ -6,9 +6,8 @@ use Rattle.floats.specs.Points.{int, Whole}
 use Rattle.definition.specs.declared.Activity.{Activity}
 use Rattle.definition.specs.Model.{Model, Row}
 use Rattle.definition.specs.Work.{Work}
-use Rattle.definition.specs.Sides.{within, redundant}
 use Rattle.best_kept.specs.PointSet.{PointSet}
-use Rattle.definition.specs.Tests.{and, or}
+use Rattle.definition.specs.Tests.{or}
 use Rattle.best_kept.specs.Activity.{ActivityOf, L, H}
 use Rattle.best_kept.specs.WorkingRow.{AtWork}
 

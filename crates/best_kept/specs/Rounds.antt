@@ -1,15 +1,12 @@
 -- `rounds`: the waves and the coefficient step lose no point of the state, and dual fixing none that is not dominated, as long as no coefficient is rewritten,
 -- whatever their order and number.
-use Prim.Native.Nat.{◌-◌, ◌<◌}
+use Prim.Native.Nat.{◌<◌}
 use Rattle.std.specs.Prelude.{◌⊎◌}
 use Rattle.definition.specs.declared.Counts.{Counts}
 use Rattle.definition.specs.Model.{Model}
 use Rattle.definition.specs.Work.{Work, Step, stop, next}
-use Rattle.definition.specs.Wave.{waves}
-use Rattle.definition.specs.Rounds.{rounds}
 use Rattle.points_kept.specs.Statements.{Point}
 use Rattle.best_kept.specs.Invariant.{NoPoint}
-use Rattle.best_kept.specs.FourthCount.{goes}
 use Rattle.best_kept.specs.Dominance.{Dominance, Dominating}
 
 -- the invariant up to dominance holds, or a coefficient has been rewritten

@@ -9,7 +9,6 @@ use Rattle.definition.specs.Params.{params}
 use Rattle.definition.specs.Model.{Model}
 use Rattle.definition.specs.Work.{Work}
 use Rattle.definition.specs.Dual.{dual_fix}
-use Rattle.definition.specs.Presolve.{start}
 use Rattle.points_kept.specs.Statements.{PureInteger}
 use Rattle.best_kept.specs.Dominance.{Dominance, Dominating}
 

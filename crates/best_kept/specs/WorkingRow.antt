@@ -2,12 +2,10 @@
 use Rattle.std.specs.Prelude.{ℕ, ◌<◌, T, length}
 use Rattle.floats.specs.Zed.{P, A}
 use Rattle.floats.specs.Points.{int}
-use Rattle.definition.specs.Model.{Model, written, Row}
-use Rattle.definition.specs.Work.{Work, budget}
+use Rattle.definition.specs.Model.{Model, Row}
+use Rattle.definition.specs.Work.{Work}
 use Rattle.best_kept.specs.PointSet.{PointSet}
 use Rattle.points_kept.specs.Statements.{PureInteger}
-use Rattle.definition.specs.Tests.{and}
-use Rattle.points_kept.proofs.WholeFloats.{tolerance}
 use Rattle.best_kept.specs.Invariant.{RowOk, GoodW}
 
 pub record AtWork (M : Model) (Sought : PointSet) (w : Work) (r : ℕ) (row : Row) : Type 0 where

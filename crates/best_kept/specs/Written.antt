@@ -1,8 +1,6 @@
 -- THE ROWS AS WRITTEN: a row is a span of the two lists of terms; its terms are whole, in range, and of distinct variables.
-use Rattle.std.specs.Prelude.{ℕ, ◌-◌, List, take, drop, Float}
-use Rattle.floats.specs.Zed.{N}
+use Rattle.std.specs.Prelude.{ℕ, List, take, drop, Float}
 use Rattle.tolerances.specs.Tol.{Term, term, zip_terms}
-use Rattle.definition.specs.Model.{from}
 
 -- the n terms from s on
 unfoldable pub span : List ℕ → List Float → ℕ → ℕ → List Term

@@ -1,5 +1,5 @@
 -- 01's "twelve model days": one table of models and answers, and one theorem, by computing the definition: each model is accepted, and has its answer.
-use Rattle.std.specs.Prelude.{◌≡◌, refl, ℕ, ◌+◌, ◌^◌, true, false, pos, length, Float}
+use Rattle.std.specs.Prelude.{◌≡◌, ℕ, ◌+◌, ◌^◌, true, false, pos, length, Float}
 use Rattle.std.proofs.Common.{ap, sym, subst, ⊎_elim}
 use mathlib.Core.List.Memᴰ
 use mathlib.Core.List.{List, [], ◌∷◌, ◌++◌, Memᴰ}
@@ -37,7 +37,7 @@ use Rattle.definition.specs.Begin.{crossed, rounded_lower, rounded_upper, round_
 use Rattle.definition.specs.Rounds.{dual_step, after_waves, rounds}
 use Rattle.definition.specs.Emit.{insert_term, sort_terms, no_terms, same_bounds, out_row, out_empty, out_alive, out_one, out_from, differs, answer_of}
 use Rattle.definition.specs.Presolve.{finish, start, after_rounding, presolve}
-use Rattle.definition.specs.Refusal.{refusal, shortest, judging}
+use Rattle.definition.specs.Refusal.{refusal, shortest}
 
 -- ---- how a case is written
 -- a whole number, a fraction rounded to the nearest float, minus zero, and a float by its bits

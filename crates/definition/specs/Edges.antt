@@ -1,13 +1,13 @@
 -- THE EDGES OF WHAT IS ACCEPTED, as 01 names them: one table of calls just inside and just outside, and one theorem, by computing; how many variables are too many;
 -- and that longer slices are accepted where shorter ones are.
-use Rattle.std.specs.Prelude.{ℕ, true, List, [], ◌∷◌, length, replicate, Float}
+use Rattle.std.specs.Prelude.{ℕ, List, [], ◌∷◌, replicate, Float}
 use Rattle.std.proofs.Math.Option.{Option, none, some}
 use Rattle.std.specs.Float.Ieee.{eq, nan}
 use Rattle.floats.specs.Num.{0f, ½f, ∞f, -∞f}
 use Rattle.definition.specs.Params.{params}
 use Rattle.definition.specs.Model.{Model}
 use Rattle.definition.specs.Cases.{#, ratio, -0f, bits, p, Line, ◌·◌, is_eq, is_le, is_ge, model_within, model}
-use Rattle.definition.specs.Refusal.{Lent, rows}
+use Rattle.definition.specs.Refusal.{Lent}
 use Rattle.definition.specs.Refusal.{shortest, refusal}
 
 -- ---- how a call is written

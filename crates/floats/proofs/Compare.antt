@@ -1,5 +1,5 @@
 -- THE ORDER OF ALL FLOATS, of the format or not: three floats are placed among the integers by one common scale, an infinity past the rest, and tests compare the places.
-use Rattle.std.specs.Prelude.{◌≡◌, ℕ, suc, ◌+◌, ◌-◌, ◌*◌, ◌<◌, Bool, true, false, not, eqb, ltb, ℤ, pos, neg_ℤ, Float}
+use Rattle.std.specs.Prelude.{◌≡◌, ℕ, ◌+◌, ◌*◌, ◌<◌, Bool, true, false, not, eqb, ltb, ℤ, pos, neg_ℤ, Float}
 use Rattle.std.proofs.Math.Path.{refl, sym, ap}
 use Rattle.std.proofs.Common.{◌∙◌, subst, eq-or-lt_of_le, mul_comm, mul_assoc, mul_right_comm, eqb→eq, ltb→lt, lt→ltb, nltb→le}
 use Rattle.std.proofs.Math.Logic.{inl, inr}

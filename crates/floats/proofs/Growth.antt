@@ -1,5 +1,5 @@
 -- LAWS OF ORDER that proofs cite by themselves: a sum with what is not negative does not fall, a difference does not rise, floor and ceil leave a whole number, a tolerance is below 1.
-use Rattle.std.specs.Prelude.{◌≡◌, ◌⊎◌, ◌+◌, Bool, ℤ, pos, ◌+ℤ◌, ◌-ℤ◌, Float}
+use Rattle.std.specs.Prelude.{◌≡◌, ◌⊎◌, Bool, ℤ, pos, ◌+ℤ◌, ◌-ℤ◌, Float}
 use Rattle.std.proofs.Math.Path.{refl}
 use Rattle.std.proofs.Common.{sym, ap, ◌∙◌, subst, inl, inr, arith, true≢false}
 use Rattle.std.proofs.Math.Bool.{true, false}

@@ -1,6 +1,6 @@
 -- WHOLE FLOATS AND THEIR ORDER, as a proof about farm models states them: `int x` is the whole number that x is, `x ≼ y` says that x <= y tests true.
 -- Sums, differences and products of whole numbers are exact up to 2 ^ 53, tests compare the numbers, and the order of all floats is one.
-use Rattle.std.specs.Prelude.{◌≡◌, refl, ℕ, zero, suc, ◌+◌, ◌-◌, ◌*◌, ◌/◌, ◌%◌, ◌^◌, ◌≤◌, ◌<◌, Bool, not, T, eqb, leb, ltb, ℤ, pos, negsuc, ◌+ℤ◌, ◌-ℤ◌, ◌*ℤ◌, Float}
+use Rattle.std.specs.Prelude.{◌≡◌, refl, ℕ, zero, suc, ◌+◌, ◌*◌, ◌/◌, ◌%◌, ◌^◌, ◌≤◌, ◌<◌, Bool, T, eqb, leb, ltb, ℤ, pos, negsuc, ◌+ℤ◌, ◌-ℤ◌, ◌*ℤ◌, Float}
 use Rattle.std.proofs.Math.Path.{sym, ap}
 use Rattle.std.proofs.Common.{◌∙◌, subst, arith, leb→le, le→leb, ltb→lt, lt→ltb, lit<, pow_pos}
 use native.Mathlib.Nat.{le_trans, le_of_eq, lt_of_le_of_lt, mul_right_comm, mul-le-mul_right, mul-lt-mul_of_pos_right, lt_of_mul-lt-mul_right}

@@ -1,11 +1,11 @@
 -- QUOTIENTS OF WHOLE NUMBERS round to the right side of a whole number, and a row of one term that its variable's bounds make redundant within a tolerance is redundant.
 -- Tolerances, margins and slacks made of whole numbers are not negative.
-use Rattle.std.specs.Prelude.{◌≡◌, refl, ◌≢◌, ℕ, zero, suc, ◌+◌, ◌-◌, ◌*◌, ◌/◌, ◌^◌, ◌≤◌, ◌<◌, Bool, true, false, not, T, leb, ℤ, pos, negsuc, neg_ℤ, ◌+ℤ◌, ◌-ℤ◌, ◌*ℤ◌, Float}
+use Rattle.std.specs.Prelude.{◌≡◌, refl, ◌≢◌, ℕ, zero, suc, ◌+◌, ◌*◌, ◌/◌, ◌^◌, ◌≤◌, ◌<◌, Bool, true, false, not, T, leb, ℤ, pos, negsuc, neg_ℤ, ◌+ℤ◌, ◌-ℤ◌, ◌*ℤ◌, Float}
 use Rattle.std.proofs.Common.{sym, ap, ◌∙◌, subst, le_refl, le_of_eq, le_of_lt, lt_of_le_of_lt, lt_irrefl, zero-mul, mul-pos, mul-le-mul_right, mul-le-mul_left, le-div_iff_mul-le, add-zero, arith, leb→le, lit<, lit≤, pow_pos}
 use Rattle.std.proofs.Math.Nat.{le_trans, div-mul-le_self, lt-div-mul-add}
 use Rattle.std.proofs.Math.Dec.{nleb→lt}
 use Rattle.std.specs.Float.{nan, inf, fin}
-use Rattle.std.specs.Float.Ieee.{neg, div, le}
+use Rattle.std.specs.Float.Ieee.{neg, div}
 use Rattle.floats.specs.Zed.{P, N, A, ◌⊑◌, ◌⊏◌, side, P_neg, N_neg, add_parts, sub_parts}
 use Rattle.floats.specs.Value.{mags, units, size_of, Num}
 use Rattle.floats.specs.Product.{pq, nq, mul_parts}
@@ -14,7 +14,7 @@ use Rattle.floats.specs.Whole.{sc, P_sc, N_sc}
 use Rattle.floats.specs.Order.{rank, rank_num, le→⊑, ⊑→le}
 use Rattle.floats.specs.Ranks as K
 use Rattle.floats.specs.Ranks.{quot_above, quot_below, Result, sum_result, sub_result, div_result, held_of}
-use Rattle.floats.specs.Points.{int, Whole, ◌≼◌, Held, Bounded, Is}
+use Rattle.floats.specs.Points.{int, Whole, ◌≼◌, Bounded, Is}
 use Rattle.floats.proofs.Points.{to_units, of_units, whole_num, whole_real, whole_rank, units_fin}
 use Rattle.floats.specs.WholeRounding.{NonNeg, Tol}
 use Rattle.floats.proofs.WholeRounding.{tol_num, tol_most, tol_least, small_num, held_scaled, zero_held, held_less, held_more, sum_below, sub_above, add_keeps, sub_keeps}

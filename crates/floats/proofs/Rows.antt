@@ -1,6 +1,6 @@
 -- A ROW'S SUM IS EXACT, whatever its length: parts that are whole numbers of a known size add up to the exact total, each addition rounding once and none of them changing anything,
 -- as long as the sizes together stay within 2 ^ 53. The parts may be products of coefficients and values, or their magnitudes. A row's activity is such a sum.
-use Rattle.std.specs.Prelude.{◌≡◌, ℕ, suc, ◌+◌, ◌-◌, ◌*◌, ◌^◌, ◌≤◌, Bool, true, List, [], ◌∷◌, length, ℤ, pos, ◌+ℤ◌, ◌*ℤ◌, Float}
+use Rattle.std.specs.Prelude.{◌≡◌, ℕ, suc, ◌+◌, ◌*◌, ◌^◌, ◌≤◌, Bool, true, List, [], ◌∷◌, length, ℤ, pos, ◌+ℤ◌, ◌*ℤ◌, Float}
 use Rattle.std.proofs.Math.Path.{refl}
 use Rattle.std.proofs.Common.{sym, ap, ◌∙◌, subst, le_trans, le_of_eq, mul-le-mul, add-zero, arith}
 use Rattle.std.proofs.Math.IntN.{+ℤ_assoc, +ℤ_idr}

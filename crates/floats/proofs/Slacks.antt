@@ -1,5 +1,5 @@
 -- SLACKS AND TOLERANCES of farm models: sums, products and quotients of what is not negative are not negative, and what is at most 3/8 stays so.
-use Rattle.std.specs.Prelude.{◌≡◌, ◌⊎◌, ℕ, ◌+◌, ◌-◌, ◌*◌, ◌^◌, ◌≤◌, ◌<◌, Bool, false, not, T, ℤ, pos, ◌+ℤ◌, ◌-ℤ◌, Float}
+use Rattle.std.specs.Prelude.{◌≡◌, ◌⊎◌, ℕ, ◌+◌, ◌*◌, ◌^◌, ◌≤◌, ◌<◌, Bool, false, not, T, ℤ, pos, ◌+ℤ◌, ◌-ℤ◌, Float}
 use Rattle.std.proofs.Math.Path.{refl}
 use Rattle.std.proofs.Common.{sym, ap, ◌∙◌, subst, inl, inr, zero-le, le_trans, le_of_eq, zero-mul, mul-zero, mul-le-mul_right, mul-le-mul_left, lt_irrefl, add-zero, arith, lit≤}
 use Rattle.std.proofs.Math.Bool.{true}
@@ -9,13 +9,12 @@ use Rattle.floats.specs.Zed.{P, N, ◌⊑◌, ◌⊏◌, side, add_parts, sub_pa
 use Rattle.floats.specs.Value.{mags, sign, units, Num}
 use Rattle.floats.specs.Product.{pq, nq}
 use Rattle.floats.specs.Norm.{Parts, parts_units}
-use Rattle.floats.specs.Whole as W
 use Rattle.floats.specs.Whole.{sc, P_sc, N_sc}
 use Rattle.floats.specs.Order.{Real, num_real, rank, rank_num, nlt→⊑}
 use Rattle.floats.proofs.Meaning.{maxf_first, maxf_second}
 use Rattle.floats.specs.Ranks as K
 use Rattle.floats.specs.Ranks.{quot_above, quot_below, sum_result, sub_result, mul_result, held_of}
-use Rattle.floats.specs.Points.{int, Whole, Held, Bounded}
+use Rattle.floats.specs.Points.{int, Whole, Bounded}
 use Rattle.floats.proofs.Points.{to_units, whole_num, units_fin}
 use Rattle.floats.specs.WholeRounding.{⅜f, NonNeg, Tol}
 use Rattle.floats.proofs.WholeRounding.{zero_rank, real_0, nonneg_real, nonneg_rank, nonneg_of, tol_real, tol_of, tol_num, tol_most}

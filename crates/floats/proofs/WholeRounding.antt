@@ -1,6 +1,6 @@
 -- THE FLOAT LAWS THAT A PROOF ABOUT FARM MODELS RESTS ON: a whole number that is below an exact value stays below what it rounds to; floor and ceil keep to it; half a unit, or a tolerance of at most
 -- 3/8, tells whole numbers apart and moves no whole bound; quotients round to the right side; tolerances, margins and slacks are not negative.
-use Rattle.std.specs.Prelude.{◌≡◌, ◌⊎◌, ℕ, ◌+◌, ◌-◌, ◌*◌, ◌^◌, ◌≤◌, ◌<◌, Bool, true, false, not, T, ℤ, pos, neg_ℤ, ◌+ℤ◌, ◌-ℤ◌}
+use Rattle.std.specs.Prelude.{◌≡◌, ◌⊎◌, ℕ, ◌+◌, ◌*◌, ◌^◌, ◌≤◌, ◌<◌, Bool, true, false, not, T, ℤ, pos, neg_ℤ, ◌+ℤ◌, ◌-ℤ◌}
 use Rattle.std.proofs.Math.Path.{refl}
 use Rattle.std.proofs.Common.{sym, ap, ◌∙◌, subst, inl, inr, zero-le, le_of_eq, lt_of_le_of_lt, not-le_of_lt, zero-mul, mul-le-mul_right, arith, lit<, lit≤}
 use Rattle.std.proofs.Math.Nat as Nat
@@ -18,7 +18,7 @@ use Rattle.floats.specs.Ranks as K
 use Rattle.floats.specs.Ranks.{quot_above, quot_below, sum_result, sub_result, held_of}
 use Rattle.floats.specs.Points.{int, Whole, ◌≼◌, ◌≺◌, ◌⊀◌, Held, Bounded, Is}
 use Rattle.floats.proofs.Points.{to_units, of_units, whole_num, whole_real, whole_rank}
-use Rattle.floats.proofs.Compare.{le_trans, lt_le}
+use Rattle.floats.proofs.Compare.{lt_le}
 use Rattle.floats.specs.Num.{◌⊕◌, ◌⊖◌, 0f, ½f, floor, ceil}
 use Rattle.floats.specs.WholeRounding.{NonNeg, Tol, ⅜f}
 

@@ -1,6 +1,6 @@
 -- A ROW'S SUM IS EXACT, whatever its length: parts that are whole numbers of a known size add up to the exact total, each addition rounding once and none of them changing anything,
 -- as long as the sizes together stay within 2 ^ 53. The parts may be products of coefficients and values, or their magnitudes. A row's activity is such a sum.
-use Rattle.std.specs.Prelude.{ℕ, suc, ◌+◌, ◌-◌, ◌^◌, ◌≤◌, List, [], ◌∷◌, length, ℤ, pos, ◌+ℤ◌, Float}
+use Rattle.std.specs.Prelude.{ℕ, ◌≤◌, List, [], ◌∷◌, ℤ, pos, ◌+ℤ◌, Float}
 use Rattle.floats.specs.Zed.{A}
 use Rattle.floats.specs.Points.{Is}
 use Rattle.floats.specs.Num.{choose, ◌⊕◌, is_finite}

@@ -1,5 +1,5 @@
 -- `hold_rewrites` and `fold_fixed`, which call each other: their ways, and the number that falls.
-use Rattle.std.specs.Prelude.{ℕ, zero, suc, ◌+◌, ◌-◌, ◌≤◌, ◌<◌, ◌≡◌, refl, Bool, false, not, ◌&&◌, List, length, get_or, Float}
+use Rattle.std.specs.Prelude.{ℕ, zero, suc, ◌+◌, ◌≤◌, ◌<◌, ◌≡◌, refl, Bool, false, not, ◌&&◌, List, length, get_or, Float}
 use Rattle.std.proofs.Common.{arith, ◌∙◌, lt→ltb}
 use Rattle.std.proofs.Math.Path.{ap, sym, subst}
 use Rattle.std.proofs.Math.Bool.{true}

@@ -1,5 +1,5 @@
 -- `fold_fixed`: what is left of a row after its fixed variables and zero coefficients have left says what the row says, and has no zero coefficient.
-use Prim.Native.Nat.{ℕ, zero, suc, ◌+◌, ◌-◌, ◌<◌}
+use Prim.Native.Nat.{ℕ, zero, suc, ◌+◌, ◌<◌}
 use native.Mathlib.Omega.{arith}
 use Rattle.std.specs.Prelude.{◌≡◌, ◌&&◌, ltb}
 use Rattle.std.proofs.Math.Path.{refl, sym, subst}
@@ -9,7 +9,6 @@ use Rattle.std.proofs.Math.ListN.{length}
 use Rattle.std.specs.Float.Ieee.{lt}
 use Rattle.floats.specs.Num.{choose, is_finite}
 use Rattle.floats.specs.Zed.{N}
-use Rattle.tolerances.specs.Tol.{at}
 use Rattle.definition.specs.Model.{Model, Row, Binding}
 use Rattle.definition.specs.Work.{Work, fixed}
 use Rattle.definition.specs.Folds.{fold_step, fold_loop, bound?, gives_back, relax_with, relax_binding, given_back, hold_rewrites, fold_fixed}

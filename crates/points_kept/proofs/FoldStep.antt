@@ -13,7 +13,7 @@ use Rattle.floats.specs.Points.{int}
 use Rattle.tolerances.specs.Tol.{Term, at}
 use Rattle.definition.specs.Model.{Model, rhs_of, written, Row}
 use Rattle.definition.specs.Work.{Work, no_term, fixed}
-use Rattle.definition.specs.Folds.{swap_remove, fold_term, fold_step, fold_fixed}
+use Rattle.definition.specs.Folds.{swap_remove, fold_term, fold_step}
 use Rattle.points_kept.specs.Statements.{dot}
 use Rattle.points_kept.proofs.Integers.{eq_parts, size_add, size_sub}
 use Rattle.definition.specs.Tests.{last_or, taking}

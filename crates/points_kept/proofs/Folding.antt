@@ -14,8 +14,8 @@ use Rattle.floats.specs.Points.{int, Whole, Is}
 use Rattle.tolerances.specs.Tol.{Term, at}
 use Rattle.tolerances.specs.Laws.{laws}
 use Rattle.definition.specs.Model.{Model, Row, with_terms}
-use Rattle.definition.specs.Work.{Work, no_term, fixed}
-use Rattle.definition.specs.Folds.{swap_remove, fold_fixed}
+use Rattle.definition.specs.Work.{Work, no_term}
+use Rattle.definition.specs.Folds.{swap_remove}
 use Rattle.points_kept.specs.Statements.{dot}
 use Rattle.points_kept.proofs.Integers.{eq_parts}
 use Rattle.definition.specs.Tests.{differ, test}

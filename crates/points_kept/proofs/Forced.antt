@@ -16,14 +16,14 @@ use Rattle.definition.specs.declared.Activity.{Activity}
 use Rattle.definition.specs.Model.{Model, Row, fixed_one}
 use Rattle.definition.specs.Work.{Work, with_bounds, with_counts}
 use Rattle.definition.specs.Bounds.{fix}
-use Rattle.definition.specs.Forcing.{corner, forcing_at, forces_min, forces_max, fix_all}
+use Rattle.definition.specs.Forcing.{corner, forcing_at, fix_all}
 use Rattle.points_kept.specs.Statements.{dot, Point}
 use Rattle.points_kept.proofs.Integers.{eq_parts, mul_cancel, mul_cancel_neg}
 use Rattle.definition.specs.Choices.{both}
 use Rattle.definition.specs.Tests.{and3, and, test, taking, picked, unpicked}
 use Rattle.points_kept.proofs.WholeFloats.{of_lt, lt_of, zero_is, small, whole_neg, sign, sign_pos}
 use Rattle.points_kept.specs.WholeFloats.{Mag}
-use Rattle.points_kept.specs.Terms.{All, Distinct, TermOk, least, low, high, NonZero, lowest, highest}
+use Rattle.points_kept.specs.Terms.{All, Distinct, TermOk, low, high, NonZero, lowest, highest}
 use Rattle.points_kept.proofs.Terms.{all_map, all_both, tail_other, tail_distinct}
 use Rattle.points_kept.specs.Invariant.{Narrow, GoodW}
 use Rattle.points_kept.specs.Changes.{From}

@@ -12,7 +12,7 @@ use Rattle.floats.specs.Zed.{P, N, A, ◌⊑◌, ext}
 use Rattle.floats.specs.Points.{int}
 use Rattle.tolerances.specs.Tol.{at, Term}
 use Rattle.tolerances.specs.Laws.{laws}
-use Rattle.definition.specs.Model.{with_terms, Model, written, op_of, rhs_of, Row}
+use Rattle.definition.specs.Model.{with_terms, Model, op_of, rhs_of, Row}
 use Rattle.definition.specs.Work.{Work, Step, stop, ◌>>=◌, no_row}
 use Rattle.points_kept.specs.Statements.{PureInteger, Meets, dot, Within, Point}
 use Rattle.points_kept.proofs.Integers.{eq_parts}

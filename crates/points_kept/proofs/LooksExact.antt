@@ -3,12 +3,9 @@
 -- by then, and variables dually fixed. No point has to be kept for it, so it holds where `Invariant` ends.
 use Rattle.std.specs.Prelude.{◌≡◌, Bool, false}
 use Rattle.std.proofs.Common.{sym, subst}
-use Rattle.floats.specs.Points.{int}
-use Rattle.tolerances.specs.Tol.{at}
 use Rattle.definition.specs.Model.{Model, Row}
 use Rattle.definition.specs.Work.{Work}
 use Rattle.definition.specs.Activities.{activity}
-use Rattle.definition.specs.Presolve.{presolve}
 use Rattle.rows_kept.specs.Looks.{Look}
 use Rattle.points_kept.specs.Statements.{PureInteger}
 use Rattle.points_kept.specs.ActivityExact.{ActivityExact}

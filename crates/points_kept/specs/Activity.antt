@@ -10,9 +10,8 @@ use Rattle.tolerances.specs.Tol.{Term, at}
 use Rattle.definition.specs.declared.Activity.{Activity}
 use Rattle.definition.specs.Model.{Model}
 use Rattle.definition.specs.Work.{Work}
-use Rattle.definition.specs.Activities.{activity}
 use Rattle.points_kept.specs.Statements.{PureInteger}
-use Rattle.points_kept.specs.Terms.{least, low, high, low_mag, high_mag}
+use Rattle.points_kept.specs.Terms.{low, high, low_mag, high_mag}
 use Rattle.points_kept.specs.Invariant.{IntervalAt}
 
 -- ---- one corner of an activity of k terms: s is its sum, n its infinite terms, a its magnitude, l its slack

@@ -7,8 +7,6 @@ use Rattle.floats.specs.Points.{int, Bounded}
 use Rattle.tolerances.specs.Tol.{at}
 use Rattle.definition.specs.Model.{Model, Reduced}
 use Rattle.definition.specs.Work.{Work}
-use Rattle.definition.specs.Activities.{activity}
-use Rattle.definition.specs.Presolve.{presolve}
 
 -- ---- a row past the end has no terms
 abbrev pub AsMany : Model → Work → Type 0

@@ -10,11 +10,9 @@ use Rattle.tolerances.specs.Tol.{Term}
 use Rattle.definition.specs.declared.Activity.{Activity}
 use Rattle.definition.specs.Model.{Model}
 use Rattle.definition.specs.Work.{Work}
-use Rattle.definition.specs.Activities.{activity}
 use Rattle.points_kept.specs.Statements.{dot, Within}
-use Rattle.definition.specs.Choices.{both}
 use Rattle.points_kept.specs.Terms.{low}
-use Rattle.points_kept.specs.Activity.{L, H}
+use Rattle.points_kept.specs.Activity.{L}
 
 -- ---- what is said of an activity
 -- the magnitudes of the terms at x, summed

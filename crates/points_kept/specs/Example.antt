@@ -1,14 +1,14 @@
 -- THE THEOREM IS NOT EMPTY: two of 01's worked cases are models that it speaks of, both accepted, with p Integer from 0 to 10: 2p ≤ 7, whose points are kept, and
 -- 2p = 7, which has none.
-use Rattle.std.specs.Prelude.{ℕ, zero, suc, ◌≤◌, false, List, [], ◌∷◌, pos, Float}
+use Rattle.std.specs.Prelude.{ℕ, zero, suc, false, List, [], ◌∷◌, pos, Float}
 use Rattle.std.proofs.Math.Option.{Option, none, some}
 use Rattle.std.specs.Float.{binary64}
 use Rattle.std.specs.Float.Ieee.{of_int, round, le, eq}
 use Rattle.floats.specs.Zed.{A}
 use Rattle.tolerances.specs.Tol.{at}
 use Rattle.definition.specs.Params.{params}
-use Rattle.definition.specs.Model.{Answer, infeasible, done, Model, from, counts}
-use Rattle.definition.specs.Cases.{Case, cases}
+use Rattle.definition.specs.Model.{Answer, infeasible, done, Model, counts}
+use Rattle.definition.specs.Cases.{Case}
 
 abbrev pub number : ℕ → Float
 number n = of_int binary64 (pos n)

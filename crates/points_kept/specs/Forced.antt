@@ -8,11 +8,9 @@ use Rattle.tolerances.specs.Tol.{Term, at}
 use Rattle.definition.specs.declared.Activity.{Activity}
 use Rattle.definition.specs.Model.{Model, Row}
 use Rattle.definition.specs.Work.{Work}
-use Rattle.definition.specs.Bounds.{fix}
-use Rattle.definition.specs.Forcing.{corner, forces_min, forces_max, fix_all}
+use Rattle.definition.specs.Forcing.{corner}
 use Rattle.points_kept.specs.Statements.{Within}
-use Rattle.definition.specs.Tests.{and, test}
-use Rattle.points_kept.specs.Terms.{All, TermOk, least, low, NonZero}
+use Rattle.points_kept.specs.Terms.{All, TermOk, low, NonZero}
 use Rattle.points_kept.specs.Invariant.{GoodW}
 use Rattle.points_kept.specs.Changes.{From, Nars}
 use Rattle.points_kept.specs.Activity.{ActivityOf, L, H}

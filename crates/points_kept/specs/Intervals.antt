@@ -2,7 +2,7 @@
 -- of whole numbers within the old one, and nothing is asked of the row that the bound comes from: it may be rewritten, and the quotient may be a NaN or
 -- infinite.
 use Rattle.std.specs.Float.Ieee.{Float}
-use Rattle.floats.specs.Zed.{N, A}
+use Rattle.floats.specs.Zed.{N}
 use Rattle.floats.specs.Points.{int, Whole, ◌≼◌}
 use Rattle.definition.specs.Tests.{or}
 use Rattle.points_kept.specs.Invariant.{Interval, Narrow}

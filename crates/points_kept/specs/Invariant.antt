@@ -13,7 +13,6 @@ use Rattle.definition.specs.declared.Counts.{Counts}
 use Rattle.definition.specs.Model.{Model, written, op_of, rhs_of, Row}
 use Rattle.definition.specs.Work.{Work, Step, stop, next, no_row}
 use Rattle.points_kept.specs.Statements.{dot, Within, Point}
-use Rattle.definition.specs.Tests.{and}
 use Rattle.points_kept.specs.Terms.{All, TermOk, Distinct}
 
 -- ---- bounds at work: whole, of a size, in order, the working ones the emitted ones as numbers

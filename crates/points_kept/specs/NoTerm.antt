@@ -10,7 +10,7 @@ use Rattle.tolerances.specs.Tol.{Term, outside, slack_min, slack_max, row_tolera
 use Rattle.tolerances.specs.Budget.{row_tol}
 use Rattle.definition.specs.Model.{Model, op_of, rhs_of, written, Row}
 use Rattle.definition.specs.Work.{Work, fixed}
-use Rattle.definition.specs.Singles.{empty_row_check, fixed_value}
+use Rattle.definition.specs.Singles.{fixed_value}
 use Rattle.points_kept.specs.Statements.{Within}
 use Rattle.points_kept.specs.Invariant.{Sided, RowSided, GoodW}
 use Rattle.points_kept.specs.WorkingRow.{AtWork}

@@ -7,9 +7,9 @@ use Rattle.floats.specs.Points.{int, Bounded, Is}
 use Rattle.tolerances.specs.Tol.{at}
 use Rattle.definition.specs.Model.{Model, op_of, Row}
 use Rattle.definition.specs.Work.{Work}
-use Rattle.definition.specs.Singles.{singleton_row, new_lower, new_upper}
+use Rattle.definition.specs.Singles.{new_lower, new_upper}
 use Rattle.points_kept.specs.Statements.{dot, Point}
-use Rattle.definition.specs.Tests.{and, or}
+use Rattle.definition.specs.Tests.{or}
 use Rattle.points_kept.specs.Invariant.{Sided}
 use Rattle.points_kept.specs.WorkingRow.{AtWork}
 use Rattle.points_kept.specs.Quotients.{AtMost, AtLeast, Signed}

@@ -7,10 +7,9 @@ use Rattle.floats.specs.Points.{int}
 use Rattle.tolerances.specs.Tol.{at}
 use Rattle.definition.specs.Model.{Model, written, op_of, Row, Emit, Reduced}
 use Rattle.definition.specs.Work.{Work}
-use Rattle.definition.specs.Emit.{Out, Final, fails, final, out_from, answer_of, written_entry}
+use Rattle.definition.specs.Emit.{Out, Final, fails, final, written_entry}
 use Rattle.points_kept.specs.Statements.{PureInteger, dot, Within, Point, terms_of, Meets}
 use Rattle.points_kept.specs.Invariant.{RowSided, GoodW, NoPoint}
-use Rattle.points_kept.specs.FourthCount.{goes}
 
 module _ (M : Model) (pure : PureInteger M) where
   -- where row j has gone to: it is emitted as written, or all within the bounds meet it

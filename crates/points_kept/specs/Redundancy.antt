@@ -6,8 +6,7 @@ use Rattle.floats.specs.Points.{int, Whole}
 use Rattle.definition.specs.declared.Activity.{Activity}
 use Rattle.definition.specs.Model.{Model, Row}
 use Rattle.definition.specs.Work.{Work}
-use Rattle.definition.specs.Sides.{within, redundant}
-use Rattle.definition.specs.Tests.{and, or}
+use Rattle.definition.specs.Tests.{or}
 use Rattle.points_kept.specs.Activity.{ActivityOf, L, H}
 use Rattle.points_kept.specs.WorkingRow.{AtWork}
 

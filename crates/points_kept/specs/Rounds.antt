@@ -1,13 +1,10 @@
 -- `rounds`: with dual fixing off, the waves and the coefficient step keep the invariant as long as no coefficient is rewritten, whatever their order and number.
-use Prim.Native.Nat.{◌-◌, ◌<◌}
+use Prim.Native.Nat.{◌<◌}
 use Rattle.std.specs.Prelude.{◌⊎◌}
 use Rattle.definition.specs.declared.Counts.{Counts}
 use Rattle.definition.specs.Model.{Model}
 use Rattle.definition.specs.Work.{Work, Step, stop, next}
-use Rattle.definition.specs.Wave.{waves}
-use Rattle.definition.specs.Rounds.{rounds}
 use Rattle.points_kept.specs.Invariant.{NoPoint}
-use Rattle.points_kept.specs.FourthCount.{goes}
 use Rattle.points_kept.specs.Coefficients.{Ok}
 
 -- a step ends with no point, or with a coefficient rewritten; or it goes on

@@ -9,7 +9,7 @@ use Rattle.floats.specs.Points.{int, Whole, Is}
 use Rattle.tolerances.specs.Tol.{at}
 use Rattle.definition.specs.Model.{Model, Row}
 use Rattle.definition.specs.Work.{no_row}
-use Rattle.definition.specs.Begin.{Bounds, cross, bounds, Rows, false_row, rows_are, crossed}
+use Rattle.definition.specs.Begin.{Bounds, cross, bounds, Rows, false_row, rows_are}
 use Rattle.points_kept.specs.Statements.{PureInteger}
 use Rattle.definition.specs.Tests.{or}
 use Rattle.points_kept.specs.Invariant.{RowAt, NoPoint}

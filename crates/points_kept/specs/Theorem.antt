@@ -6,7 +6,6 @@ use Rattle.floats.specs.WholeRounding.{NonNeg}
 use Rattle.tolerances.specs.Tol.{at}
 use Rattle.definition.specs.Params.{params}
 use Rattle.definition.specs.Model.{Model}
-use Rattle.definition.specs.Presolve.{start}
 use Rattle.points_kept.specs.Statements.{PureInteger}
 
 module _ (M : Model) (pure : PureInteger M) (one : M.mode ≡ 1) (margin : NonNeg M.params.redundant_margin) where

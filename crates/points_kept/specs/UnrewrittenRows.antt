@@ -1,7 +1,6 @@
 -- ROWS THAT ARE NOT REWRITTEN, in every state that presolve reaches and whatever became of the other rows: such a row's terms are the model's terms of that
 -- row, the folded ones and zero coefficients apart. A rewrite marks its row as touched, or gives it back as written.
-use Prim.Native.Nat.{ℕ, zero, suc, ◌+◌, ◌-◌, ◌≤◌, ◌<◌}
-use Rattle.std.proofs.Common.{ap}
+use Prim.Native.Nat.{ℕ, ◌+◌, ◌≤◌, ◌<◌}
 use Rattle.std.specs.Prelude.{◌≡◌, ◌⊎◌, true, false, get_or}
 use mathlib.Core.List.{List}
 use Rattle.std.proofs.Math.ListN.{length}

@@ -1,10 +1,9 @@
 -- A ROW AT WORK in a state of the invariant: what is left of it says what the written row says, its sides and magnitudes are whole, its budgets are tolerances.
 use Rattle.std.specs.Prelude.{ℕ, ◌<◌, T, length}
 use Rattle.floats.specs.Zed.{P, A}
-use Rattle.definition.specs.Model.{Model, written, Row}
-use Rattle.definition.specs.Work.{Work, budget}
+use Rattle.definition.specs.Model.{Model, Row}
+use Rattle.definition.specs.Work.{Work}
 use Rattle.points_kept.specs.Statements.{PureInteger}
-use Rattle.definition.specs.Tests.{and}
 use Rattle.points_kept.specs.Invariant.{RowOk, GoodW}
 
 pub record AtWork (M : Model) (w : Work) (r : ℕ) (row : Row) : Type 0 where

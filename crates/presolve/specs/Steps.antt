@@ -14,7 +14,6 @@ use Rattle.definition.specs.Presolve.{presolve}
 use Rattle.definition.specs.Refusal.{refusal}
 use Rattle.formulas.specs.Fixing.{mip}
 use Rattle.space.specs.declared.Shape.{Shape}
-use Rattle.space.specs.declared.Step as step
 use Rattle.space.specs.declared.Step.TheVariants.{Stop, Next}
 use Rattle.space.specs.Store.{Floats, Numbers, HoldsF, HoldsN}
 use Rattle.view.specs.Call.{Call}

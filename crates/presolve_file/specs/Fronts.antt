@@ -1,5 +1,5 @@
 -- The printed text of a call's answer, read from the fronts of the result slices: it is the text of the definition's answer.
-use Rattle.std.specs.Prelude.{ℕ, ◌-◌, ◌≤◌, ◌≡◌, refl, List, length, take, Float}
+use Rattle.std.specs.Prelude.{ℕ, ◌≤◌, ◌≡◌, refl, List, length, take, Float}
 use Rattle.std.proofs.Math.Path.{sym}
 use Rattle.std.proofs.Common.{◌∙◌}
 use Rattle.definition.specs.declared.Counts as definition

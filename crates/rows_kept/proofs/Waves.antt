@@ -1,5 +1,5 @@
 -- The walk over waves, the coefficient step and rounds: a property that `Kept` keeps is kept by each, and no more waves are counted than the cap allows.
-use Prim.Native.Nat.{ℕ, zero, suc, ◌+◌, ◌-◌, ◌≤◌}
+use Prim.Native.Nat.{ℕ, zero, suc, ◌+◌, ◌≤◌}
 use native.Mathlib.Omega.{arith}
 use Rattle.std.specs.Prelude.{◌≡◌, Bool, length, set}
 use Rattle.std.proofs.Math.Path.{refl, ap}
@@ -20,7 +20,7 @@ use Rattle.definition.specs.Forcing.{fix_all}
 use Rattle.definition.specs.Wave.{several_terms, by_count, wave_row, wave_rows, wave, waves}
 use Rattle.definition.specs.Rewrites.{Form, le_form, ge_form, no_form, form_of, vacuous_room}
 use Rattle.definition.specs.Tighten.{Rewriting, queued, rewrite_step, rewrite_loop, tighten_form, tighten_by, tighten_row, tighten_from, tighten_binary_coeffs}
-use Rattle.definition.specs.Rounds.{dual_step, after_waves, rounds}
+use Rattle.definition.specs.Rounds.{dual_step, after_waves}
 use Rattle.definition.specs.Choices.{both, taking, true≢false, and_left}
 use Rattle.rows_kept.specs.Steps.{Each, stopped, went}
 use Rattle.rows_kept.proofs.Steps.{then}

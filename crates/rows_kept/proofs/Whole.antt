@@ -10,7 +10,7 @@ use Rattle.std.proofs.Math.Option.{Option, none, some}
 use Rattle.tolerances.specs.Tol.{at, says_true}
 use Rattle.definition.specs.declared.Counts.{Counts}
 use Rattle.definition.specs.Params.{max_waves}
-use Rattle.definition.specs.Model.{Model, Row, counts, Reduced, infeasible, done}
+use Rattle.definition.specs.Model.{Model, Row, counts, Reduced, done}
 use Rattle.definition.specs.Work.{Work, Step, stop, next, trivial}
 use Rattle.definition.specs.Begin.{Bounds, cross, bounds, Rows, false_row, rows_are, round_var, round_from, add_row, read_row, read_from}
 use Rattle.definition.specs.Emit.{Out, no_out, Final, fails, final, out_from, answer_of}

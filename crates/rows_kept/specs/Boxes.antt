@@ -1,15 +1,10 @@
 -- The walk over what changes bounds: marks, fixings, tightened bounds, implied bounds. A property that `Bounding` keeps is kept by each.
 use Rattle.std.specs.Prelude.{◌≡◌, Float}
-use Rattle.std.proofs.Math.Bool.{true, not}
+use Rattle.std.proofs.Math.Bool.{true}
 use mathlib.Core.List.{List, [], ◌∷◌}
-use Rattle.std.specs.Float.Ieee.{le}
-use Rattle.floats.specs.Num.{ge}
 use Rattle.tolerances.specs.Tol.{Term, at}
 use Rattle.definition.specs.Model.{Model, is_int}
 use Rattle.definition.specs.Work.{Work}
-use Rattle.definition.specs.Bounds.{fix}
-use Rattle.definition.specs.Implied.{implied}
-use Rattle.rows_kept.specs.Kept.{Bounding}
 
 -- the emitted bounds are not touched by marks
 pub record Box (P : Work → Type 0) (l h : List Float) (w : Work) : Type 0 where

@@ -1,5 +1,5 @@
 -- No coefficient that goes out is a NaN, if none of the model's is: a row's terms are the model's or were put there by a rewrite.
-use Rattle.std.specs.Prelude.{ℕ, ◌-◌, ◌≡◌, false, Float}
+use Rattle.std.specs.Prelude.{ℕ, ◌≡◌, false, Float}
 use Rattle.std.specs.Float.Ieee.{is_nan}
 use Rattle.tolerances.specs.Tol.{Term, term}
 use Rattle.definition.specs.Model.{Model, Row}

@@ -2,7 +2,7 @@
 -- once: marks, a count, a bound, a fixing, a row changed or dropped. `answer_reached` follows presolve from move to move to its answer, infeasible ones
 -- included, so that no state on its way is left out. More is let in than presolve comes to (a bound from any numbers, any row's fold): what holds of every
 -- state here holds of more than is asked.
-use Prim.Native.Nat.{ℕ, ◌-◌}
+use Prim.Native.Nat.{ℕ}
 use Rattle.std.specs.Prelude.{◌≡◌, length, set, Float}
 use Rattle.std.proofs.Math.Bool.{Bool, true, false}
 use mathlib.Core.List.{List, []}
@@ -16,12 +16,10 @@ use Rattle.definition.specs.Begin.{crossed, cross, bounds, rows_are, round_from,
 use Rattle.definition.specs.Bounds.{fix, tighten_upper, tighten_lower}
 use Rattle.definition.specs.Singles.{singleton_int}
 use Rattle.definition.specs.Forcing.{corner}
-use Rattle.definition.specs.Implied.{implied}
 use Rattle.definition.specs.Dual.{dual_var}
 use Rattle.definition.specs.Emit.{Out}
-use Rattle.definition.specs.Presolve.{start, presolve}
 use Rattle.rows_kept.specs.Steps.{Each}
-use Rattle.rows_kept.specs.Kept.{Changed, folded}
+use Rattle.rows_kept.specs.Kept.{Changed}
 use Rattle.rows_kept.specs.Whole.{begun, reduced}
 
 pub data Reaches (M : Model) : Work → Type 0 where

@@ -2,7 +2,6 @@
 use Prim.Native.Nat.{ℕ, zero, ◌+◌, ◌-◌, ◌≤◌, ◌<◌}
 use Rattle.std.specs.Prelude.{◌≡◌, ◌⊎◌, true, false, get_or}
 use mathlib.Core.List.{List}
-use Rattle.std.proofs.Math.Option.{none}
 use Rattle.std.proofs.Math.ListN.{length}
 use Rattle.std.specs.Float.Ieee.{eq}
 use Rattle.floats.specs.Num.{0f}
@@ -13,7 +12,6 @@ use Rattle.definition.specs.Model.{Model, Row}
 use Rattle.definition.specs.Work.{Work, Step, stop, next, no_row, no_term, has}
 use Rattle.definition.specs.Wave.{wave, waves}
 use Rattle.definition.specs.Rounds.{after_waves}
-use Rattle.rows_kept.specs.Kept.{folded}
 use Rattle.rows_kept.specs.AllRows.{AllRows}
 
 -- no live term of the row has a zero coefficient

@@ -1,5 +1,5 @@
 -- A ROW'S TOLERANCE, MARGIN AND BUDGET, the tolerance less the margin, are each from 0 to 3/8, for magnitudes up to 2 ^ 45 and up to 256 terms; so is a bound's tolerance. 1e-14 * 2 ^ 45 is below 3/8.
-use Rattle.std.specs.Prelude.{◌≡◌, ℕ, ◌+◌, ◌-◌, ◌*◌, ◌^◌, ◌<◌, ◌≤◌, Bool, true, false, not, T, ℤ, pos, ◌+ℤ◌, ◌-ℤ◌, Float}
+use Rattle.std.specs.Prelude.{◌≡◌, ℕ, ◌+◌, ◌*◌, ◌^◌, ◌≤◌, Bool, true, false, not, T, ℤ, pos, ◌+ℤ◌, ◌-ℤ◌, Float}
 use Rattle.std.proofs.Math.Path.{refl}
 use Rattle.std.proofs.Common.{sym, ap, ◌∙◌, subst, zero-le, arith, lit≤, lit<}
 use native.Mathlib.Nat.{le_trans, le_of_eq, mul-le-mul_right, mul_comm, add-zero}

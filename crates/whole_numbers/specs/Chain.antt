@@ -1,5 +1,5 @@
 -- The conditions one after the other: where one fails, that is the fault; where it holds, the fault is that of the conditions left.
-use Rattle.std.specs.Prelude.{ℕ, ◌≤◌, ◌<◌, ◌≡◌, refl, Bool, ltb, length, drop}
+use Rattle.std.specs.Prelude.{ℕ, ◌≤◌, ◌<◌, ◌≡◌, Bool, ltb, length, drop}
 use Rattle.std.proofs.Common.{arith, ◌∙◌, le-ltb, lt-ltb}
 use Rattle.std.proofs.Math.Path.{sym, ap}
 use Rattle.std.proofs.Math.Bool.{true, false}

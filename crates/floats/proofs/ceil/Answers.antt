@@ -1,5 +1,4 @@
 -- `ceil` computes its definition, the mirror of floor's.
-use borrow.Author.Rules.{rules}
 use mathlib.Core.Path.{sym, ap, ◌∙◌}
 use lib.Ieee.{neg}
 use Rattle.floats.proofs.Meaning.{ceil_mirror}

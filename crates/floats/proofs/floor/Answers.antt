@@ -1,5 +1,4 @@
 -- `floor` computes its definition: the steps do, by ToWhole.
-use borrow.Author.Rules.{rules}
 use mathlib.Core.Path.{◌≡◌, sym, subst, ap, ◌∙◌}
 use mathlib.Core.Bool.{true}
 use lib.Dec.{T}

@@ -1,5 +1,4 @@
 -- What equals +∞ once its sign is cleared is an infinity.
-use borrow.Author.Rules.{rules}
 use mathlib.Core.Path.{◌≡◌, refl, ap, ◌∙◌}
 use lib.Ieee.{Float, nan, inf, fin, eq, of_bits}
 use Rattle.floats.specs.Num.{abs, is_infinite, ∞f}

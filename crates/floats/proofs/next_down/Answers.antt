@@ -1,5 +1,4 @@
 -- `next_down` is the mirror of `next_up`.
-use borrow.Author.Rules.{rules}
 use mathlib.Core.Path.{ap}
 use lib.Ieee.{neg}
 use Rattle.floats.specs.Num.{next_down}

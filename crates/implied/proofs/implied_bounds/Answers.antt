@@ -1,13 +1,10 @@
 -- `implied_bounds` is implied_bounds, of the row that stands in the state.
 use Prim.Native.Nat.{◌-◌}
 use native.Mathlib.Omega.{arith}
-use mathlib.Core.Path.{◌≡◌}
-use lib.ListN.{length}
-use Rattle.space.specs.Store.{floats_of, numbers_of}
-use Rattle.rows.specs.Knowing.{Moves, moves_spans, span_at}
+use Rattle.rows.specs.Knowing.{moves_spans, span_at}
 use Rattle.rows.specs.Steps.{tries_is}
-use Rattle.rows.specs.Loop.{Turning, turning_ready, still_place, still_small, still_var}
-use Rattle.implied.specs.Loop.{Implying, implying_rows, implying_turn, implying_stop, implying_end}
+use Rattle.rows.specs.Loop.{turning_ready, still_place, still_small, still_var}
+use Rattle.implied.specs.Loop.{implying_rows, implying_turn, implying_stop, implying_end}
 use borrow.Author.Rules.{rules}
 use Rattle.implied.proofs.implied_bounds.Goals as goal
 

@@ -1,6 +1,5 @@
 -- `implied_half` is a half of implied_term, by its side.
 use Rattle.implied.specs.Sides.{half_is}
-use borrow.Author.Rules.{rules}
 use Rattle.implied.proofs.implied_half.Goals as goal
 
 pub returns : goal.returns

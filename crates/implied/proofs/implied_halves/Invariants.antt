@@ -1,17 +1,13 @@
 -- `implied_halves`: what is done before a half, and the half, are the halves.
-use native.Mathlib.Omega.{arith}
-use mathlib.Core.Path.{◌≡◌, refl}
+use mathlib.Core.Path.{◌≡◌}
 use lib.ListN.{length}
 use Rattle.tolerances.specs.Tol.{term}
 use Rattle.space.specs.declared.Step.TheVariants.{Next}
 use Rattle.space.specs.Store.{floats_of, numbers_of}
 use Rattle.formulas.specs.Bare.{bare}
 use Rattle.view.specs.Acts.{Tries}
-use Rattle.view.specs.Steps.{ready_went}
 use Rattle.rows.specs.Knowing.{Moves}
-use Rattle.rows.specs.Steps.{tries_is}
-use Rattle.implied.specs.Sides.{done_before, turns_left, turns_less, before_first, before_keeps, first_half, halves_stop, halves_end, halves_upper}
-use borrow.Author.Rules.{rules}
+use Rattle.implied.specs.Sides.{done_before, turns_left}
 use Rattle.implied.proofs.implied_halves.Given as goal
 
 abbrev pub invariant-loop-upper : goal.invariant-loop-upper

@@ -2,7 +2,6 @@
 use Rattle.view.specs.Steps.{ready_under}
 use Rattle.rows.specs.Knowing.{moves_bounding}
 use Rattle.implied.specs.Sides.{rest_upper, rest_lower}
-use borrow.Author.Rules.{rules}
 use Rattle.implied.proofs.implied_rest.Goals as goal
 
 pub returns-then-above : goal.returns-then-above

@@ -1,7 +1,6 @@
 -- `implied_side` is a half of implied_term: implied, where the side is finite.
 use mathlib.Core.Path.{sym, ◌∙◌}
 use Rattle.implied.specs.Sides.{side_skip, side_open, side_sum}
-use borrow.Author.Rules.{rules}
 use Rattle.implied.proofs.implied_side.Goals as goal
 
 pub returns-in-Sum : goal.returns-in-Sum

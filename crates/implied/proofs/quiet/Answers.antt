@@ -2,7 +2,6 @@
 use mathlib.Core.Path.{sym, ◌∙◌}
 use Rattle.formulas.specs.Stays.{held_so}
 use Rattle.implied.specs.Sides.{quiet_skip, quiet_open, quiet_still}
-use borrow.Author.Rules.{rules}
 use Rattle.implied.proofs.quiet.Goals as goal
 
 pub returns-in-Sum : goal.returns-in-Sum

@@ -1,7 +1,6 @@
 -- `side_of`: the side that a half looks at, and the term's part at its corner.
 use mathlib.Core.Path.{◌∙◌, sym}
 use Rattle.view.specs.Lists.{yes, no}
-use borrow.Author.Rules.{rules}
 use Rattle.implied.proofs.side_of.Goals as goal
 
 pub returns-then-upper : goal.returns-then-upper

@@ -1,6 +1,5 @@
 -- `still`: both answers say yes.
 use Rattle.formulas.specs.Stays.{never}
-use borrow.Author.Rules.{rules}
 use Rattle.implied.proofs.still.Goals as goal
 
 pub returns-then-relaxes : goal.returns-then-relaxes

@@ -1,8 +1,6 @@
 -- The answer goes by what the checking pass saw and by the room there is.
-use borrow.Author.Tests.{not-true, not-false}
 use mathlib.Core.Path.{sym, ◌∙◌}
 use Rattle.model_file.specs.Answers.{answer_refused, answer_few_vars, answer_few_rows, answer_ready, answer_model}
-use borrow.Author.Rules.{rules}
 use Rattle.model_file.proofs.read_model.Goals as goal
 
 pub returns-then-not-room_variables : goal.returns-then-not-room_variables

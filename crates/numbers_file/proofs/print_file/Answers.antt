@@ -5,7 +5,6 @@ use mathlib.Core.List.{List}
 use Rattle.print_result.specs.Printing.{printed}
 use Rattle.presolve_file.specs.Front.{read_held, refused_number, read_lists}
 use Rattle.numbers_file.specs.Whole.{text_refused, text_read}
-use borrow.Author.Rules.{rules}
 use Rattle.numbers_file.proofs.print_file.Goals as goal
 
 pub print_front-requires : goal.print_front-requires

@@ -4,7 +4,6 @@ use mathlib.Core.Path.{ap, ◌∙◌}
 use mathlib.Core.List.{List}
 use Rattle.print_result.specs.Printing.{printed}
 use Rattle.numbers_file.specs.Whole.{whole_line_lem, off_line_lem}
-use borrow.Author.Rules.{rules}
 use Rattle.numbers_file.proofs.print_model.Goals as goal
 
 pub returns-in-Whole : goal.returns-in-Whole

@@ -1,6 +1,5 @@
 -- `suedeonyx_presolve`: what presolve promises and how it is told, or a slice that is too short for it.
 use Rattle.presolve_c.specs.Steps.{promise_short, promise_told}
-use borrow.Author.Rules.{rules}
 use Rattle.presolve_c.proofs.suedeonyx_presolve.Goals as goal
 
 pub returns-then-answer-lt-ANSWER : goal.returns-then-answer-lt-ANSWER

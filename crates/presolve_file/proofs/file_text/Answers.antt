@@ -1,6 +1,5 @@
 -- A text that fits stands at the start of the buffer.
 use Rattle.presolve_file.specs.Fitting.{fits_bytes, fits_none}
-use borrow.Author.Rules.{rules}
 use Rattle.presolve_file.proofs.file_text.Goals as goal
 
 pub returns-in-NoRoom : goal.returns-in-NoRoom

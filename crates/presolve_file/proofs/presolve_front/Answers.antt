@@ -1,7 +1,6 @@
 -- The parts of the slices that the model takes are there.
 use mathlib.Core.Path.{sym}
 use lib.Seq.{length-take-le}
-use borrow.Author.Rules.{rules}
 use Rattle.presolve_file.proofs.presolve_front.Goals as goal
 
 pub slice_bounds-presolve_model-end : goal.slice_bounds-presolve_model-end

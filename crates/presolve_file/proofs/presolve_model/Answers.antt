@@ -4,7 +4,6 @@ use mathlib.Core.Path.{refl, ap, ◌∙◌}
 use mathlib.Core.List.{List}
 use Rattle.print_result.specs.Printing.{printed}
 use Rattle.presolve_file.specs.Called.{called_fronts, called_text}
-use borrow.Author.Rules.{rules}
 use Rattle.presolve_file.proofs.presolve_model.Goals as goal
 
 pub presolve-answer-requires : goal.presolve-answer-requires

@@ -4,7 +4,6 @@ use mathlib.Core.Path.{refl, ap, ◌∙◌}
 use mathlib.Core.List.{List}
 use Rattle.print_result.specs.Printing.{printed}
 use Rattle.presolve_file.specs.Front.{read_refused, read_held, read_text}
-use borrow.Author.Rules.{rules}
 use Rattle.presolve_file.proofs.print_file.Goals as goal
 
 pub presolve_front-requires : goal.presolve_front-requires

@@ -1,6 +1,5 @@
 -- The first run counts, and the second writes what it counted.
 use Rattle.print_result.specs.Printing.{no_room, written}
-use borrow.Author.Rules.{rules}
 use Rattle.print_result.proofs.print_numbers.Goals as goal
 
 pub returns-then-out-n : goal.returns-then-out-n

@@ -1,9 +1,7 @@
 -- After an infeasible answer only the counts follow.
 use mathlib.Core.Path.{sym, ◌∙◌}
-use borrow.Author.Tests.{not-true, not-false}
 use Rattle.print_result.specs.TextLaws.{only_counts, all_lines}
 use Rattle.print_result.specs.Page.{recast, ◌⨟◌}
-use borrow.Author.Rules.{rules}
 use Rattle.print_result.proofs.put_all.Goals as goal
 
 pub returns-then-not-followed : goal.returns-then-not-followed

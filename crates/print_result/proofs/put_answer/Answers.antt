@@ -2,7 +2,6 @@
 use mathlib.Core.Path.{sym, ap}
 use Rattle.print_result.specs.Text.{ascii, answer_line}
 use Rattle.print_result.specs.Page.{recast}
-use borrow.Author.Rules.{rules}
 use Rattle.print_result.proofs.put_answer.Goals as goal
 
 pub returns-in-Reduced : goal.returns-in-Reduced

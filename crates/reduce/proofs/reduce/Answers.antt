@@ -41,5 +41,8 @@ pub shape_of-adj-in-Next-rounds : goal.shape_of-adj-in-Next-rounds
 shape_of-adj-in-Next-rounds c = search rules
 
 pub returns-in-Next-rounds : goal.returns-in-Next-rounds
-returns-in-Next-rounds c = let b = begins_is c.begin.ensures c.in-Next.is in record { reduces = reduce_settled b (waves_is c.rounds.ensures c.in-Next-rounds.is)
-      c.settle_rows.ensures; adjoins = adjoins_settled b }
+returns-in-Next-rounds c = let b = begins_is c.begin.ensures c.in-Next.is in record {
+  reduces = reduce_settled b (waves_is c.rounds.ensures c.in-Next-rounds.is)
+      c.settle_rows.ensures;
+  adjoins = adjoins_settled b;
+}

@@ -1,6 +1,5 @@
 -- `refused` is the table of refusals: each row that does not apply is skipped, and gives the later ones what they rely on.
 use mathlib.Core.Path.{sym, ◌∙◌}
-use borrow.Author.Rules.{rules}
 use Rattle.refuse.specs.Rows.{lengths_agree, sizes_small}
 use Rattle.refuse.specs.Table.{by_table, no_more, stop, skip, lengths, sizes, spans, indices, codes, bounds, numbers, rhses, tolerances, short}
 use Rattle.refuse.proofs.refused.Goals as goal

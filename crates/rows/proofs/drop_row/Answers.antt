@@ -1,7 +1,6 @@
 -- `drop_row` is dropRow, of the row that stands in the state.
 use Rattle.space.specs.Blocks.{alive_length, dropped_length}
 use Rattle.rows.specs.Drop.{drop_acts}
-use borrow.Author.Rules.{rules}
 use Rattle.rows.proofs.drop_row.Goals as goal
 
 pub returns : goal.returns

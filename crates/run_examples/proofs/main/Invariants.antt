@@ -1,6 +1,5 @@
 -- One argument after the other.
 use Prim.Native.Nat.{◌-◌}
-use borrow.Author.Rules.{rules}
 use Rattle.run_examples.proofs.main.Given as goal
 
 abbrev pub invariant-loop-i : goal.invariant-loop-i

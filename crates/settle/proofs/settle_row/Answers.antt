@@ -1,7 +1,6 @@
 -- `settle_row` is settle_row.
 use Rattle.emit.specs.Judging.{written_gives, ready_trivial}
 use Rattle.settle.specs.Settling.{row_trivial, row_gone, row_live}
-use borrow.Author.Rules.{rules}
 use Rattle.settle.proofs.settle_row.Goals as goal
 
 pub is_trivial-requires : goal.is_trivial-requires

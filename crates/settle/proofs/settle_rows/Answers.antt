@@ -1,10 +1,6 @@
 -- `settle_rows` is settle_from, of all rows.
 use Prim.Native.Nat.{◌-◌}
-use mathlib.Core.Path.{◌≡◌}
-use lib.ListN.{length}
-use Rattle.space.specs.Store.{floats_of, numbers_of}
-use Rattle.view.specs.Known.{Written}
-use Rattle.settle.specs.Settling.{Settling, settle_start, settle_turn, settle_stop, settle_end}
+use Rattle.settle.specs.Settling.{settle_start, settle_turn, settle_stop, settle_end}
 use borrow.Author.Rules.{rules}
 use Rattle.settle.proofs.settle_rows.Goals as goal
 

@@ -4,8 +4,7 @@ use mathlib.Core.Path.{◌≡◌}
 use lib.ListN.{length}
 use Rattle.space.specs.Store.{floats_of, numbers_of}
 use Rattle.view.specs.Known.{Written}
-use Rattle.settle.specs.Settling.{Settling, settle_start, settle_turn, settle_stop, settle_end}
-use borrow.Author.Rules.{rules}
+use Rattle.settle.specs.Settling.{Settling}
 use Rattle.settle.proofs.settle_rows.Given as goal
 
 abbrev pub invariant-loop-r : goal.invariant-loop-r

@@ -1,5 +1,5 @@
 -- `bound_tolerance` computes its definition: at a bound of usual size, at another finite one, and at an open one.
-use Rattle.std.proofs.Common.{sym, ap, ◌∙◌, rules}
+use Rattle.std.proofs.Common.{sym, ap, ◌∙◌}
 use Rattle.tolerances.specs.Tol.{row_tolerance}
 use Rattle.tolerances.specs.Usual.{usual_tolerance}
 use Rattle.tolerances.proofs.Facts.{bound_finite, bound_open}

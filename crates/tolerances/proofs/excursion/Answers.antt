@@ -1,5 +1,5 @@
 -- `excursion` computes its definition.
-use Rattle.std.proofs.Common.{sym, ◌∙◌, rules}
+use Rattle.std.proofs.Common.{sym, ◌∙◌}
 use Rattle.tolerances.proofs.Facts.{excursion_finite, excursion_open}
 use Rattle.tolerances.proofs.excursion.Goals as goal
 

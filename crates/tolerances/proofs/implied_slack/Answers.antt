@@ -1,9 +1,9 @@
 -- `implied_slack` computes its definition. The loop's invariant: what the sum so far and the terms left make is the whole row's. The measure is the number of
 -- terms left.
-use Rattle.std.proofs.Common.{◌≡◌, ◌+◌, ◌-◌, ◌≤◌, length, get_or, sym, ap, ◌∙◌, arith, rules}
+use Rattle.std.proofs.Common.{◌+◌, get_or, sym, ap, ◌∙◌, arith}
 use lib.Ieee.{Float, nan}
 use Rattle.cdouble.specs.declared.CDouble.{CDouble}
-use Rattle.tolerances.specs.Tol.{at, zip_terms, row_start, row_term, row_slack}
+use Rattle.tolerances.specs.Tol.{at, zip_terms, row_term, row_slack}
 use Rattle.tolerances.specs.Terms.{row_from, slack_by_terms}
 use Rattle.tolerances.specs.Answers.{sum_of}
 use Rattle.tolerances.proofs.Sum.{Left, count_within, step, done}

@@ -1,5 +1,5 @@
 -- `less_term` computes its definition, by the two tests of the limit.
-use Rattle.std.proofs.Common.{sym, ap, ◌∙◌, rules}
+use Rattle.std.proofs.Common.{sym, ap, ◌∙◌}
 use lib.Ieee.{Float, lt}
 use Rattle.tolerances.specs.Tol.{SPLIT_LIMIT}
 use Rattle.tolerances.proofs.Facts.{term_exact, term_value, term_coeff_lem}

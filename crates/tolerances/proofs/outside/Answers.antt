@@ -1,5 +1,5 @@
 -- `outside` computes its definition.
-use Rattle.std.proofs.Common.{sym, ◌∙◌, rules}
+use Rattle.std.proofs.Common.{sym, ◌∙◌}
 use Rattle.tolerances.proofs.Facts.{outside_low, outside_high, outside_open}
 use Rattle.tolerances.proofs.outside.Goals as goal
 

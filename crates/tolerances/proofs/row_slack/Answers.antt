@@ -1,5 +1,4 @@
 -- `row_slack` computes its definition.
-use Rattle.std.proofs.Common.{rules}
 use Rattle.tolerances.specs.Tol.{row_slack}
 use Rattle.tolerances.proofs.row_slack.Goals as goal
 

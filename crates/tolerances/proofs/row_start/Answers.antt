@@ -1,5 +1,4 @@
 -- `row_start` computes its definition.
-use Rattle.std.proofs.Common.{rules}
 use Rattle.tolerances.specs.Tol.{row_start}
 use Rattle.tolerances.proofs.row_start.Goals as goal
 

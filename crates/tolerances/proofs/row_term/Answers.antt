@@ -1,5 +1,4 @@
 -- `row_term` computes its definition.
-use Rattle.std.proofs.Common.{rules}
 use Rattle.tolerances.specs.Tol.{row_term}
 use Rattle.tolerances.proofs.row_term.Goals as goal
 

@@ -1,5 +1,4 @@
 -- `row_tolerance` computes its definition.
-use Rattle.std.proofs.Common.{rules}
 use Rattle.tolerances.specs.Tol.{row_tolerance}
 use Rattle.tolerances.proofs.row_tolerance.Goals as goal
 

@@ -1,5 +1,5 @@
 -- `row_violation` computes its definition: a row that holds at every point, or the verdict on its slack.
-use Rattle.std.proofs.Common.{sym, ◌∙◌, rules}
+use Rattle.std.proofs.Common.{sym, ◌∙◌}
 use Rattle.tolerances.specs.Answers.{pair_of, violation_of}
 use Rattle.tolerances.specs.Tol.{at, zip_terms}
 use Rattle.tolerances.proofs.Facts.{says, known, judged}

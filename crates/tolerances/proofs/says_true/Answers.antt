@@ -1,5 +1,4 @@
 -- `says_true` computes its definition, by the verdict.
-use Rattle.std.proofs.Common.{rules}
 use Rattle.tolerances.specs.Tol.{says_true}
 use Rattle.tolerances.proofs.says_true.Goals as goal
 

@@ -1,5 +1,4 @@
 -- `slack_margin` computes its definition.
-use Rattle.std.proofs.Common.{rules}
 use Rattle.floats.specs.Num.{of_count}
 use Rattle.tolerances.specs.Tol.{slack_margin}
 use Rattle.tolerances.proofs.slack_margin.Goals as goal

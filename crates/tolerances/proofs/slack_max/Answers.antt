@@ -1,5 +1,4 @@
 -- `slack_max` computes its definition.
-use Rattle.std.proofs.Common.{rules}
 use Rattle.tolerances.proofs.Facts.{max_open, max_zero}
 use Rattle.tolerances.proofs.slack_max.Goals as goal
 

@@ -1,5 +1,4 @@
 -- `slack_min` computes its definition.
-use Rattle.std.proofs.Common.{rules}
 use Rattle.tolerances.proofs.Facts.{min_open, min_zero}
 use Rattle.tolerances.proofs.slack_min.Goals as goal
 

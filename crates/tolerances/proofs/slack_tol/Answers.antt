@@ -1,5 +1,4 @@
 -- `slack_tol` computes its definition.
-use Rattle.std.proofs.Common.{rules}
 use Rattle.tolerances.specs.Tol.{slack_tol}
 use Rattle.tolerances.proofs.slack_tol.Goals as goal
 

@@ -1,5 +1,4 @@
 -- `slack_violates` computes its definition.
-use Rattle.std.proofs.Common.{rules}
 use Rattle.tolerances.specs.Tol.{slack_violates}
 use Rattle.tolerances.proofs.slack_violates.Goals as goal
 

@@ -1,5 +1,5 @@
 -- `slack_violation` computes its definition, by its test.
-use Rattle.std.proofs.Common.{sym, ◌∙◌, rules}
+use Rattle.std.proofs.Common.{sym, ◌∙◌}
 use Rattle.tolerances.specs.Answers.{pair_of}
 use Rattle.tolerances.proofs.Facts.{slack_missed, slack_met}
 use Rattle.tolerances.proofs.slack_violation.Goals as goal

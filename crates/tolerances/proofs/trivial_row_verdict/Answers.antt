@@ -1,5 +1,5 @@
 -- `trivial_row_verdict` computes its definition: an infinite right side, a row of no terms, and any other.
-use Rattle.std.proofs.Common.{true, false, sym, ◌∙◌, rules}
+use Rattle.std.proofs.Common.{true, false, sym, ◌∙◌}
 use Rattle.tolerances.proofs.Facts.{verdict_infinite, verdict_empty, verdict_terms}
 use Rattle.tolerances.proofs.trivial_row_verdict.Goals as goal
 

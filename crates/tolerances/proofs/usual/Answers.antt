@@ -1,6 +1,5 @@
 -- `usual`: one comparison.
 use Rattle.tolerances.specs.Usual.{usual_is}
-use Rattle.std.proofs.Common.{rules}
 use Rattle.tolerances.proofs.usual.Goals as goal
 
 pub returns : goal.returns

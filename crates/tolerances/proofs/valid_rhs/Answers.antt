@@ -1,5 +1,5 @@
 -- `valid_rhs` computes its definition.
-use Rattle.std.proofs.Common.{sym, ap, ◌∙◌, rules}
+use Rattle.std.proofs.Common.{sym, ap, ◌∙◌}
 use lib.Ieee.{eq}
 use Rattle.tolerances.proofs.Facts.{rhs_finite, rhs_low, rhs_high}
 use Rattle.tolerances.proofs.valid_rhs.Goals as goal

@@ -1,7 +1,5 @@
 -- `whole_numbers`: each condition is asked where those before it hold.
-use Rattle.definition.specs.Model.{Model}
-use Rattle.whole_numbers.specs.Of.{numbers_of}
-use Rattle.whole_numbers.specs.Chain.{Left, domain_found, domain_on, bounds_found, bounds_on, coeff_found, coeff_on, rhs_found, rhs_on}
+use Rattle.whole_numbers.specs.Chain.{domain_found, domain_on, bounds_found, bounds_on, coeff_found, coeff_on, rhs_found, rhs_on}
 use Rattle.whole_numbers.specs.Chain.{long_found, long_on, tolerance_found, tolerance_on, mode_found, mode_on}
 use borrow.Author.Rules.{rules}
 use Rattle.whole_numbers.proofs.whole_numbers.Goals as goal

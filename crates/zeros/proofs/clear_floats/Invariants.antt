@@ -1,10 +1,8 @@
 -- `clear_floats`: zeros so far, the rest as it was.
 use Prim.Native.Nat.{◌-◌}
-use native.Mathlib.Omega.{arith}
-use lib.ListN.{length, length-set}
+use lib.ListN.{length}
 use Rattle.floats.specs.Num.{0f}
-use Rattle.zeros.specs.Fill.{Filled, fill_turn, fill_end}
-use borrow.Author.Rules.{rules}
+use Rattle.zeros.specs.Fill.{Filled}
 use Rattle.zeros.proofs.clear_floats.Given as goal
 
 abbrev pub invariant-loop-i : goal.invariant-loop-i

@@ -2,7 +2,7 @@
 use Prim.Native.Nat.{◌-◌}
 use native.Mathlib.Omega.{arith}
 use lib.ListN.{length, length-set}
-use Rattle.zeros.specs.Fill.{Filled, fill_turn, fill_end}
+use Rattle.zeros.specs.Fill.{fill_turn, fill_end}
 use borrow.Author.Rules.{rules}
 use Rattle.zeros.proofs.clear_numbers.Goals as goal
 

@@ -1,9 +1,7 @@
 -- `clear_numbers`: zeros so far, the rest as it was.
 use Prim.Native.Nat.{◌-◌}
-use native.Mathlib.Omega.{arith}
-use lib.ListN.{length, length-set}
-use Rattle.zeros.specs.Fill.{Filled, fill_turn, fill_end}
-use borrow.Author.Rules.{rules}
+use lib.ListN.{length}
+use Rattle.zeros.specs.Fill.{Filled}
 use Rattle.zeros.proofs.clear_numbers.Given as goal
 
 abbrev pub invariant-loop-i : goal.invariant-loop-i

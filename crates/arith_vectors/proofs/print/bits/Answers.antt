@@ -1,5 +1,4 @@
 -- What equals itself is no NaN, so it has a pattern.
-use borrow.Author.Rules.{rules}
 use mathlib.Core.Path.{◌≡◌}
 use mathlib.Core.Bool.{true, not, false≢true}
 use lib.Dec.{T}

@@ -1,7 +1,6 @@
 -- `crossed` computes its definition.
 use Prim.Native.Nat.{◌-◌}
-use lib.ListN.{length}
-use Rattle.begin.specs.Crossing.{CrossInv, cross_stop, cross_turn, cross_end}
+use Rattle.begin.specs.Crossing.{cross_stop, cross_turn, cross_end}
 use borrow.Author.Rules.{rules}
 use Rattle.begin.proofs.crossing.crossed.Goals as goal
 

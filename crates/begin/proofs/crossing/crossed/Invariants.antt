@@ -1,8 +1,7 @@
 -- `crossed` computes its definition.
 use Prim.Native.Nat.{◌-◌}
 use lib.ListN.{length}
-use Rattle.begin.specs.Crossing.{CrossInv, cross_stop, cross_turn, cross_end}
-use borrow.Author.Rules.{rules}
+use Rattle.begin.specs.Crossing.{CrossInv}
 use Rattle.begin.proofs.crossing.crossed.Given as goal
 
 abbrev pub invariant-loop-v : goal.invariant-loop-v

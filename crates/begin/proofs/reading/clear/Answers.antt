@@ -1,7 +1,6 @@
 -- `clear` stores to the queue's length and the five counts.
 use Rattle.space.specs.Store.{numbers_of}
 use Rattle.begin.specs.Reading.{clear_end}
-use borrow.Author.Rules.{rules}
 use Rattle.begin.proofs.reading.clear.Goals as goal
 
 pub returns : goal.returns

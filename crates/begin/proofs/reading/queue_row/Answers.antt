@@ -1,7 +1,6 @@
 -- `queue_row` stores a row's flags, and adds it to the queue.
 use Rattle.space.specs.Store.{numbers_of}
 use Rattle.begin.specs.Reading.{queue_end}
-use borrow.Author.Rules.{rules}
 use Rattle.begin.proofs.reading.queue_row.Goals as goal
 
 pub returns : goal.returns

@@ -1,11 +1,8 @@
 -- `read_rows` reads the rows as the definition does.
 use Prim.Native.Nat.{◌-◌}
 use native.Mathlib.Omega.{arith}
-use mathlib.Core.Path.{◌≡◌, refl}
-use lib.ListN.{length}
-use Rattle.space.specs.Store.{floats_of, numbers_of}
-use Rattle.view.specs.Known.{Written}
-use Rattle.begin.specs.Reading.{ReadInv, rows_long, read_start, read_turn, read_stop, read_end, turn_room}
+use mathlib.Core.Path.{refl}
+use Rattle.begin.specs.Reading.{rows_long, read_start, read_turn, read_stop, read_end, turn_room}
 use borrow.Author.Rules.{rules}
 use Rattle.begin.proofs.reading.read_rows.Goals as goal
 

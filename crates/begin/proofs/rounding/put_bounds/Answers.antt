@@ -1,7 +1,6 @@
 -- `put_bounds` stores to the four blocks of bounds.
 use mathlib.Core.Path.{ap, ◌∙◌}
 use Rattle.space.specs.Store.{put_whi, put_elo, put_ehi}
-use borrow.Author.Rules.{rules}
 use Rattle.begin.proofs.rounding.put_bounds.Goals as goal
 
 pub returns : goal.returns

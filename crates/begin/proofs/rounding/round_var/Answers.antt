@@ -1,6 +1,5 @@
 -- `round_var` stores the definition's bounds of one variable.
 use Rattle.begin.specs.Rounding.{var_cross, var_int, var_real}
-use borrow.Author.Rules.{rules}
 use Rattle.begin.proofs.rounding.round_var.Goals as goal
 
 pub returns-then-lo-hi : goal.returns-then-lo-hi

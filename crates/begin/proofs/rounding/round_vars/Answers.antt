@@ -1,10 +1,8 @@
 -- `round_vars` stores the definition's bounds, or finds that some cross.
 use Prim.Native.Nat.{◌-◌}
 use native.Mathlib.Omega.{arith}
-use mathlib.Core.Path.{◌≡◌, refl}
-use lib.ListN.{length}
-use Rattle.space.specs.Store.{floats_of}
-use Rattle.begin.specs.Rounding.{RoundInv, four_long, round_start, round_stop, round_turn, round_end}
+use mathlib.Core.Path.{refl}
+use Rattle.begin.specs.Rounding.{four_long, round_start, round_stop, round_turn, round_end}
 use borrow.Author.Rules.{rules}
 use Rattle.begin.proofs.rounding.round_vars.Goals as goal
 

@@ -1,11 +1,9 @@
 -- `round_vars` stores the definition's bounds, or finds that some cross.
 use Prim.Native.Nat.{◌-◌}
-use native.Mathlib.Omega.{arith}
-use mathlib.Core.Path.{◌≡◌, refl}
+use mathlib.Core.Path.{◌≡◌}
 use lib.ListN.{length}
 use Rattle.space.specs.Store.{floats_of}
-use Rattle.begin.specs.Rounding.{RoundInv, four_long, round_start, round_stop, round_turn, round_end}
-use borrow.Author.Rules.{rules}
+use Rattle.begin.specs.Rounding.{RoundInv}
 use Rattle.begin.proofs.rounding.round_vars.Given as goal
 
 abbrev pub invariant-loop-v : goal.invariant-loop-v

@@ -1,6 +1,5 @@
 -- `emit_bounds` is emit_bounds.
 use Rattle.bounds.specs.Moves.{emit_tighter, emit_same}
-use borrow.Author.Rules.{rules}
 use Rattle.bounds.proofs.bounds.emit_bounds.Goals as goal
 
 pub returns-then-emits_tighter : goal.returns-then-emits_tighter

@@ -1,6 +1,5 @@
 -- `is_int` is is_int.
 use Rattle.bounds.specs.Moves.{int_yes, int_no}
-use borrow.Author.Rules.{rules}
 use Rattle.bounds.proofs.bounds.is_int.Goals as goal
 
 pub returns-then-s : goal.returns-then-s

@@ -1,6 +1,5 @@
 -- `lower_int` is lower_int.
 use Rattle.bounds.specs.Moves.{lower_int_leave, lower_int_stop, lower_int_tight}
-use borrow.Author.Rules.{rules}
 use Rattle.bounds.proofs.bounds.lower_int.Goals as goal
 
 pub returns-in-Leave : goal.returns-in-Leave

@@ -1,6 +1,5 @@
 -- `lower_real` is lower_real.
 use Rattle.bounds.specs.Moves.{lower_real_leave, lower_real_stop, lower_real_tight}
-use borrow.Author.Rules.{rules}
 use Rattle.bounds.proofs.bounds.lower_real.Goals as goal
 
 pub returns-in-Leave : goal.returns-in-Leave

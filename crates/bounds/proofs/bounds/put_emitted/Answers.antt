@@ -1,6 +1,5 @@
 -- `put_emitted`: the four bounds that emit_bounds leaves.
 use Rattle.bounds.specs.Moves.{emits_four}
-use borrow.Author.Rules.{rules}
 use Rattle.bounds.proofs.bounds.put_emitted.Goals as goal
 
 pub returns : goal.returns

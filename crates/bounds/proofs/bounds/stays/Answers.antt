@@ -1,6 +1,5 @@
 -- `stays`, from above and from below.
 use Rattle.bounds.specs.Stays.{stays_above, stays_below, still_above, still_below}
-use borrow.Author.Rules.{rules}
 use Rattle.bounds.proofs.bounds.stays.Goals as goal
 
 pub returns-then-above : goal.returns-then-above

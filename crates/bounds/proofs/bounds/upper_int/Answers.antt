@@ -1,6 +1,5 @@
 -- `upper_int` is upper_int.
 use Rattle.bounds.specs.Moves.{upper_int_leave, upper_int_stop, upper_int_tight}
-use borrow.Author.Rules.{rules}
 use Rattle.bounds.proofs.bounds.upper_int.Goals as goal
 
 pub returns-in-Leave : goal.returns-in-Leave

@@ -1,6 +1,5 @@
 -- `upper_real` is upper_real.
 use Rattle.bounds.specs.Moves.{upper_real_leave, upper_real_stop, upper_real_tight}
-use borrow.Author.Rules.{rules}
 use Rattle.bounds.proofs.bounds.upper_real.Goals as goal
 
 pub returns-in-Leave : goal.returns-in-Leave

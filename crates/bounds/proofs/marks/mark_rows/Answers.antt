@@ -1,11 +1,9 @@
 -- `mark_rows` is mark_row over the rows that stand in adj from place a up to e.
 use Prim.Native.Nat.{◌-◌}
 use native.Mathlib.Omega.{arith}
-use mathlib.Core.Path.{◌≡◌, refl}
-use lib.ListN.{length}
-use Rattle.space.specs.Store.{numbers_of}
-use Rattle.bounds.specs.Flags.{FlagsKept, flags_refl, flags_then}
-use Rattle.view.specs.Marks.{RowsInv, rows_start, rows_row, rows_turn, rows_end}
+use mathlib.Core.Path.{refl}
+use Rattle.bounds.specs.Flags.{flags_refl, flags_then}
+use Rattle.view.specs.Marks.{rows_start, rows_row, rows_turn, rows_end}
 use borrow.Author.Rules.{rules}
 use Rattle.bounds.proofs.marks.mark_rows.Goals as goal
 

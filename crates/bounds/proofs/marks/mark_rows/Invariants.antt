@@ -1,12 +1,10 @@
 -- `mark_rows` is mark_row over the rows that stand in adj from place a up to e.
 use Prim.Native.Nat.{◌-◌}
-use native.Mathlib.Omega.{arith}
-use mathlib.Core.Path.{◌≡◌, refl}
+use mathlib.Core.Path.{◌≡◌}
 use lib.ListN.{length}
 use Rattle.space.specs.Store.{numbers_of}
-use Rattle.bounds.specs.Flags.{FlagsKept, flags_refl, flags_then}
-use Rattle.view.specs.Marks.{RowsInv, rows_start, rows_row, rows_turn, rows_end}
-use borrow.Author.Rules.{rules}
+use Rattle.bounds.specs.Flags.{FlagsKept}
+use Rattle.view.specs.Marks.{RowsInv}
 use Rattle.bounds.proofs.marks.mark_rows.Given as goal
 
 abbrev pub invariant-loop-i : goal.invariant-loop-i

@@ -1,5 +1,4 @@
 -- `add` computes its definition, from what `two_sum` gives.
-use borrow.Author.Rules.{rules}
 use Rattle.cdouble.specs.Double.{plus}
 use Rattle.cdouble.proofs.CDouble.add.Goals as goal
 

@@ -1,5 +1,4 @@
 -- `add_product` computes its definition, from what `two_product` and `add` give.
-use borrow.Author.Rules.{rules}
 use Rattle.cdouble.specs.Double.{plus_product}
 use Rattle.cdouble.proofs.CDouble.add_product.Goals as goal
 

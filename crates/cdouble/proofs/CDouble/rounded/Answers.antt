@@ -1,5 +1,4 @@
 -- `rounded` computes its definition, by the sign of what `two_sum` leaves over.
-use borrow.Author.Rules.{rules}
 use mathlib.Core.Path.{◌∙◌}
 use Rattle.cdouble.specs.Rounding.{going_up, staying_up, going_down, staying_down}
 use Rattle.cdouble.proofs.CDouble.rounded.Goals as goal

@@ -1,5 +1,4 @@
 -- `two_product` computes its definition, from what `split` gives.
-use borrow.Author.Rules.{rules}
 use Rattle.cdouble.specs.Double.{two_product}
 use Rattle.cdouble.proofs.CDouble.two_product.Goals as goal
 

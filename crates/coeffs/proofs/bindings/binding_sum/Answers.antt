@@ -1,10 +1,6 @@
 -- `binding_sum`: what is left of the definition from the k-th binary on gives the whole.
 use Prim.Native.Nat.{◌-◌}
-use Rattle.space.specs.Store.{floats_of, numbers_of}
-use Rattle.view.specs.Known.{Written}
-use Rattle.coeffs.specs.Over.{Over}
-use Rattle.coeffs.specs.Bound.{bind_from, bind_all, bind_start, bind_turn, bind_end}
-use borrow.Author.Rules.{rules}
+use Rattle.coeffs.specs.Bound.{bind_start, bind_turn, bind_end}
 use Rattle.coeffs.proofs.bindings.binding_sum.Goals as goal
 
 pub loop-k-init : goal.loop-k-init

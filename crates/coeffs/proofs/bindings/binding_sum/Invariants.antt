@@ -3,8 +3,7 @@ use Prim.Native.Nat.{◌-◌}
 use Rattle.space.specs.Store.{floats_of, numbers_of}
 use Rattle.view.specs.Known.{Written}
 use Rattle.coeffs.specs.Over.{Over}
-use Rattle.coeffs.specs.Bound.{bind_from, bind_all, bind_start, bind_turn, bind_end}
-use borrow.Author.Rules.{rules}
+use Rattle.coeffs.specs.Bound.{bind_from, bind_all}
 use Rattle.coeffs.proofs.bindings.binding_sum.Given as goal
 
 abbrev pub invariant-loop-k : goal.invariant-loop-k

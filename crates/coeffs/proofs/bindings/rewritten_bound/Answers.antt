@@ -3,7 +3,6 @@ use native.Mathlib.Omega.{arith}
 use mathlib.Core.Path.{ap}
 use lib.ListN.{length}
 use Rattle.coeffs.specs.Bound.{bound_none, bound_up, bound_down}
-use borrow.Author.Rules.{rules}
 use Rattle.coeffs.proofs.bindings.rewritten_bound.Goals as goal
 
 pub bounds-rhs-r : goal.bounds-rhs-r

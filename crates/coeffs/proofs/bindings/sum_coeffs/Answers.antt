@@ -1,12 +1,9 @@
 -- `sum_coeffs`: what is left of the definition from the k-th binary on gives the whole.
 use Prim.Native.Nat.{◌-◌}
 use native.Mathlib.Omega.{arith}
-use Rattle.space.specs.Store.{floats_of, numbers_of}
-use Rattle.view.specs.Known.{Spans}
 use Rattle.readers.specs.RowAt.{row_ready}
-use Rattle.coeffs.specs.Over.{Over, over_place, over_small, over_term}
-use Rattle.coeffs.specs.Bound.{sum_from, sum_all, sum_start, sum_turn, sum_end}
-use borrow.Author.Rules.{rules}
+use Rattle.coeffs.specs.Over.{over_place, over_small, over_term}
+use Rattle.coeffs.specs.Bound.{sum_start, sum_turn, sum_end}
 use Rattle.coeffs.proofs.bindings.sum_coeffs.Goals as goal
 
 pub bounds-starts-r : goal.bounds-starts-r

@@ -1,6 +1,5 @@
 -- `is_binary`: the test is a function of numbers.
 use Rattle.coeffs.specs.Eligible.{is_binary}
-use borrow.Author.Rules.{rules}
 use Rattle.coeffs.proofs.tighten.is_binary.Goals as goal
 
 pub returns : goal.returns

@@ -1,6 +1,5 @@
 -- `rewrite_term`: the rewrite is a function of numbers.
 use Rattle.coeffs.specs.Eligible.{term_rewrite}
-use borrow.Author.Rules.{rules}
 use Rattle.coeffs.proofs.tighten.rewrite_term.Goals as goal
 
 pub returns : goal.returns

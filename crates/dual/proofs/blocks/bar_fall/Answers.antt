@@ -1,6 +1,5 @@
 -- `bar_fall`, by whether the variable is barred.
 use Rattle.dual.specs.Flags.{fall_barred, fall_free}
-use borrow.Author.Rules.{rules}
 use Rattle.dual.proofs.blocks.bar_fall.Goals as goal
 
 pub returns-then-b : goal.returns-then-b

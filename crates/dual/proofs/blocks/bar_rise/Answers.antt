@@ -1,6 +1,5 @@
 -- `bar_rise`, by whether the variable is barred.
 use Rattle.dual.specs.Flags.{rise_barred, rise_free}
-use borrow.Author.Rules.{rules}
 use Rattle.dual.proofs.blocks.bar_rise.Goals as goal
 
 pub returns-then-b : goal.returns-then-b

@@ -1,10 +1,7 @@
 -- `block_rows`: after r rows, the flags are those of the first r.
 use Prim.Native.Nat.{◌-◌}
-use mathlib.Core.Path.{◌≡◌}
-use lib.ListN.{length}
-use Rattle.space.specs.Store.{floats_of, numbers_of}
 use Rattle.dual.specs.Flags.{ready_flags}
-use Rattle.dual.specs.Barring.{Rows, rows_start, rows_turn, rows_end}
+use Rattle.dual.specs.Barring.{rows_start, rows_turn, rows_end}
 use borrow.Author.Rules.{rules}
 use Rattle.dual.proofs.blocks.block_rows.Goals as goal
 

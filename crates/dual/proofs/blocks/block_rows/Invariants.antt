@@ -3,9 +3,7 @@ use Prim.Native.Nat.{◌-◌}
 use mathlib.Core.Path.{◌≡◌}
 use lib.ListN.{length}
 use Rattle.space.specs.Store.{floats_of, numbers_of}
-use Rattle.dual.specs.Flags.{ready_flags}
-use Rattle.dual.specs.Barring.{Rows, rows_start, rows_turn, rows_end}
-use borrow.Author.Rules.{rules}
+use Rattle.dual.specs.Barring.{Rows}
 use Rattle.dual.proofs.blocks.block_rows.Given as goal
 
 abbrev pub invariant-loop-r : goal.invariant-loop-r

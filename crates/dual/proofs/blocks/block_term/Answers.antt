@@ -1,6 +1,5 @@
 -- `block_term`: both flags of one term.
 use Rattle.dual.specs.Barring.{term_bars}
-use borrow.Author.Rules.{rules}
 use Rattle.dual.proofs.blocks.block_term.Goals as goal
 
 pub returns : goal.returns

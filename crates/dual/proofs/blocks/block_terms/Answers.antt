@@ -1,9 +1,7 @@
 -- `block_terms`: after i terms, the flags are those of the first i.
 use Prim.Native.Nat.{◌-◌}
-use mathlib.Core.Path.{◌≡◌, refl}
-use lib.ListN.{length}
-use Rattle.space.specs.Store.{floats_of, numbers_of}
-use Rattle.dual.specs.Barring.{Barring, bar_start, bar_var, bar_turn, bar_end}
+use mathlib.Core.Path.{refl}
+use Rattle.dual.specs.Barring.{bar_start, bar_var, bar_turn, bar_end}
 use borrow.Author.Rules.{rules}
 use Rattle.dual.proofs.blocks.block_terms.Goals as goal
 

@@ -1,10 +1,9 @@
 -- `block_terms`: after i terms, the flags are those of the first i.
 use Prim.Native.Nat.{◌-◌}
-use mathlib.Core.Path.{◌≡◌, refl}
+use mathlib.Core.Path.{◌≡◌}
 use lib.ListN.{length}
 use Rattle.space.specs.Store.{floats_of, numbers_of}
-use Rattle.dual.specs.Barring.{Barring, bar_start, bar_var, bar_turn, bar_end}
-use borrow.Author.Rules.{rules}
+use Rattle.dual.specs.Barring.{Barring}
 use Rattle.dual.proofs.blocks.block_terms.Given as goal
 
 abbrev pub invariant-loop-i : goal.invariant-loop-i

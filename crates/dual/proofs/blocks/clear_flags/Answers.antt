@@ -1,10 +1,8 @@
 -- `clear_flags`: the flags of the variables below v are clear.
 use Prim.Native.Nat.{◌-◌}
-use mathlib.Core.Path.{◌≡◌}
 use lib.ListN.{length}
-use Rattle.space.specs.Store.{numbers_of}
 use Rattle.space.specs.Blocks.{bad_dec_length, bad_inc_length}
-use Rattle.dual.specs.Flags.{Clearing, clear_start, clear_turn, clear_end}
+use Rattle.dual.specs.Flags.{clear_start, clear_turn, clear_end}
 use borrow.Author.Rules.{rules}
 use Rattle.dual.proofs.blocks.clear_flags.Goals as goal
 

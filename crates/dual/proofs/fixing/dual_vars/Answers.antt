@@ -1,9 +1,6 @@
 -- `dual_vars`: what is left of the definition from v on gives the whole.
 use Prim.Native.Nat.{◌-◌}
-use mathlib.Core.Path.{◌≡◌}
-use lib.ListN.{length}
-use Rattle.space.specs.Store.{floats_of, numbers_of}
-use Rattle.dual.specs.Fixing.{Vars, vars_start, vars_turn, vars_end}
+use Rattle.dual.specs.Fixing.{vars_start, vars_turn, vars_end}
 use borrow.Author.Rules.{rules}
 use Rattle.dual.proofs.fixing.dual_vars.Goals as goal
 

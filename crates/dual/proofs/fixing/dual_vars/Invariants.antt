@@ -3,8 +3,7 @@ use Prim.Native.Nat.{◌-◌}
 use mathlib.Core.Path.{◌≡◌}
 use lib.ListN.{length}
 use Rattle.space.specs.Store.{floats_of, numbers_of}
-use Rattle.dual.specs.Fixing.{Vars, vars_start, vars_turn, vars_end}
-use borrow.Author.Rules.{rules}
+use Rattle.dual.specs.Fixing.{Vars}
 use Rattle.dual.proofs.fixing.dual_vars.Given as goal
 
 abbrev pub invariant-loop-v : goal.invariant-loop-v

@@ -1,6 +1,5 @@
 -- `falls`: the test of `may_fall` on the slices.
 use Rattle.dual.specs.Fixing.{falls_as}
-use borrow.Author.Rules.{rules}
 use Rattle.dual.proofs.fixing.falls.Goals as goal
 
 pub returns : goal.returns

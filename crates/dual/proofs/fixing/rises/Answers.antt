@@ -1,6 +1,5 @@
 -- `rises`: the test of `may_rise` on the slices.
 use Rattle.dual.specs.Fixing.{rises_as}
-use borrow.Author.Rules.{rules}
 use Rattle.dual.proofs.fixing.rises.Goals as goal
 
 pub returns : goal.returns

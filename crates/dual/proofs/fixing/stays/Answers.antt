@@ -1,6 +1,5 @@
 -- `stays`, by whether the variable is fixed, and an integer one.
 use Rattle.dual.specs.Fixing.{stays_fixed, stays_int, stays_real}
-use borrow.Author.Rules.{rules}
 use Rattle.dual.proofs.fixing.stays.Goals as goal
 
 pub returns-then-fixed_at : goal.returns-then-fixed_at

@@ -1,8 +1,5 @@
 -- `bounds_changed` is whether a bound is another number now than in the model.
-use borrow.Author.Rules.{rules}
-use Rattle.definition.specs.Emit.{same_bounds}
-use Rattle.emit.specs.Same.{SameTo, same_start, same_turn, same_differs, same_end, first_differs, second_differs, none_differs}
-use Rattle.space.specs.Blocks.{elo_length, ehi_length}
+use Rattle.emit.specs.Same.{SameTo}
 use Prim.Native.Nat.{◌-◌}
 use Rattle.space.specs.Store.{floats_of}
 use Rattle.emit.proofs.bounds.bounds_changed.Given as goal

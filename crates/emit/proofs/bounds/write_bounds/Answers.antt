@@ -1,9 +1,8 @@
 -- `write_bounds` is lower and upper of Reduced, at the front of the slices.
 use borrow.Author.Rules.{rules}
-use Rattle.emit.specs.Filling.{Copied, copy_start, copy_kept, copy_turn, copy_end}
+use Rattle.emit.specs.Filling.{copy_start, copy_kept, copy_turn, copy_end}
 use Prim.Native.Nat.{◌-◌}
 use native.Mathlib.Omega.{arith}
-use Rattle.space.specs.Store.{floats_of}
 use lib.Ieee.{nan}
 use Rattle.space.specs.Blocks.{elo_length, ehi_length}
 use Rattle.emit.proofs.bounds.write_bounds.Goals as goal

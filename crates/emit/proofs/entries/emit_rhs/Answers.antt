@@ -1,7 +1,6 @@
 -- `emit_rhs`: the right side of row r follows the n that are written, if it is emitted.
 use Rattle.emit.specs.Fates.{is_out}
 use Rattle.emit.specs.Filling.{put_taken, put_left}
-use borrow.Author.Rules.{rules}
 use Rattle.emit.proofs.entries.emit_rhs.Goals as goal
 
 pub returns-then-is_out : goal.returns-then-is_out

@@ -4,7 +4,6 @@ use Prim.Native.Nat.{ℕ}
 use Rattle.emit.specs.Fates.{is_out, is_rewritten}
 use Rattle.row_terms.specs.RowMark.{mark}
 use Rattle.emit.specs.Filling.{put_taken, put_left}
-use borrow.Author.Rules.{rules}
 use Rattle.emit.proofs.entries.emit_row.Goals as goal
 
 pub returns-then-is_out : goal.returns-then-is_out

@@ -1,6 +1,5 @@
 -- `side`: the right side that row r goes out with.
 use Rattle.emit.specs.Fates.{side_bound, side_given}
-use borrow.Author.Rules.{rules}
 use Rattle.emit.proofs.entries.side.Goals as goal
 
 pub returns-then-is_rewritten : goal.returns-then-is_rewritten

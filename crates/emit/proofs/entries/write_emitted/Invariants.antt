@@ -1,10 +1,8 @@
 -- `write_emitted` is row and rewritten of emitted, at the front of the slices.
-use borrow.Author.Rules.{rules}
 use Prim.Native.Nat.{◌-◌, ◌≤◌}
-use native.Mathlib.Omega.{arith}
 use Rattle.space.specs.Store.{numbers_of}
 use Rattle.emit.specs.Fates.{out_at, mark_at, self}
-use Rattle.emit.specs.Filling.{Filled, fill_start, fill_kept, fill_room, fill_turn, fill_end}
+use Rattle.emit.specs.Filling.{Filled}
 use Rattle.emit.proofs.entries.write_emitted.Given as goal
 
 abbrev pub invariant-loop-r : goal.invariant-loop-r

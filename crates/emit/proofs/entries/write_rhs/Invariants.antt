@@ -1,10 +1,8 @@
 -- `write_rhs` is rhs of emitted, at the front of the slice.
-use borrow.Author.Rules.{rules}
 use Prim.Native.Nat.{◌-◌, ◌≤◌}
-use native.Mathlib.Omega.{arith}
 use Rattle.space.specs.Store.{floats_of, numbers_of}
 use Rattle.emit.specs.Fates.{out_at, side_at}
-use Rattle.emit.specs.Filling.{Filled, fill_start, fill_kept, fill_room, fill_turn, fill_end}
+use Rattle.emit.specs.Filling.{Filled}
 use Rattle.emit.proofs.entries.write_rhs.Given as goal
 
 abbrev pub invariant-loop-r : goal.invariant-loop-r

@@ -1,6 +1,5 @@
 -- `mark_of`: its mark, where it is emitted: 0 written, 1 rewritten.
 use Rattle.row_terms.specs.RowMark.{mark_one, mark_zero}
-use borrow.Author.Rules.{rules}
 use Rattle.emit.proofs.fates.mark_of.Goals as goal
 
 pub returns-then-is_rewritten : goal.returns-then-is_rewritten

@@ -2,7 +2,6 @@
 use mathlib.Core.Path.{refl}
 use Rattle.emit.specs.Fates.{is_kept}
 use Rattle.emit.specs.Filling.{put_taken, put_left}
-use borrow.Author.Rules.{rules}
 use Rattle.emit.proofs.kept.keep_row.Goals as goal
 
 pub returns-then-is_kept : goal.returns-then-is_kept

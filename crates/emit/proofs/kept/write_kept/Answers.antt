@@ -1,10 +1,8 @@
 -- `write_kept` is kept of Reduced, at the front of the slice.
 use borrow.Author.Rules.{rules}
-use Prim.Native.Nat.{◌-◌, ◌≤◌}
+use Prim.Native.Nat.{◌-◌}
 use native.Mathlib.Omega.{arith}
-use Rattle.space.specs.Store.{numbers_of}
-use Rattle.emit.specs.Fates.{kept_at, self}
-use Rattle.emit.specs.Filling.{Filled, fill_start, fill_kept, fill_room, fill_turn, fill_end}
+use Rattle.emit.specs.Filling.{fill_start, fill_kept, fill_room, fill_turn, fill_end}
 use Rattle.emit.proofs.kept.write_kept.Goals as goal
 
 pub loop-r-init : goal.loop-r-init

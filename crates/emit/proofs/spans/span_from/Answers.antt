@@ -1,6 +1,5 @@
 -- `span_from`: where the span of row r starts.
 use Rattle.emit.specs.Spans.{from_yes, from_no}
-use borrow.Author.Rules.{rules}
 use Rattle.emit.proofs.spans.span_from.Goals as goal
 
 pub returns-then-is_rewritten : goal.returns-then-is_rewritten

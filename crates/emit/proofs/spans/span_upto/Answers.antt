@@ -1,6 +1,5 @@
 -- `span_upto`: where it ends.
 use Rattle.emit.specs.Spans.{upto_yes, upto_no}
-use borrow.Author.Rules.{rules}
 use Rattle.emit.proofs.spans.span_upto.Goals as goal
 
 pub returns-then-is_rewritten : goal.returns-then-is_rewritten

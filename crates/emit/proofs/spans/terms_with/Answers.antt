@@ -1,7 +1,6 @@
 -- `terms_with`: how many terms the rewritten rows have up to row r and with it; before is the number before it.
 use native.Mathlib.Omega.{arith}
 use Rattle.emit.specs.Spans.{with_room, with_yes, with_no}
-use borrow.Author.Rules.{rules}
 use Rattle.emit.proofs.spans.terms_with.Goals as goal
 
 pub overflow_add-result : goal.overflow_add-result

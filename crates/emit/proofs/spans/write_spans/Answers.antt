@@ -2,10 +2,8 @@
 use borrow.Author.Rules.{rules}
 use Prim.Native.Nat.{◌-◌}
 use native.Mathlib.Omega.{arith}
-use Rattle.space.specs.Store.{numbers_of}
-use Rattle.emit.specs.Fates.{out_at}
-use Rattle.emit.specs.Filling.{Filled, fill_start, fill_kept, fill_room, fill_turn, fill_end}
-use Rattle.emit.specs.Spans.{start_at, end_at, Before, before_start, before_turn}
+use Rattle.emit.specs.Filling.{fill_start, fill_kept, fill_room, fill_turn, fill_end}
+use Rattle.emit.specs.Spans.{before_start, before_turn}
 use Rattle.emit.proofs.spans.write_spans.Goals as goal
 
 pub loop-r-init : goal.loop-r-init

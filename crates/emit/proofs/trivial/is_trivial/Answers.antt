@@ -1,6 +1,5 @@
 -- `is_trivial` is trivial.
 use Rattle.emit.specs.Judging.{trivial_tells}
-use borrow.Author.Rules.{rules}
 use Rattle.emit.proofs.trivial.is_trivial.Goals as goal
 
 pub returns : goal.returns

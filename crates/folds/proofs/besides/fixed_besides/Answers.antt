@@ -1,11 +1,10 @@
 -- `fixed_besides` is fixed_besides, of the row's own binding.
-use Prim.Native.Nat.{◌-◌, ◌≤◌}
+use Prim.Native.Nat.{◌-◌}
 use native.Mathlib.Omega.{arith}
 use mathlib.Core.Path.{refl}
-use Rattle.space.specs.Store.{floats_of, numbers_of}
 use Rattle.folds.specs.Sized.{sized}
 use Rattle.folds.specs.FoldStep.{spans_long, stop_in, folds_in}
-use Rattle.folds.specs.Besides.{listed, binaries_in, folded_in, Summed, summed_more, besides_end}
+use Rattle.folds.specs.Besides.{binaries_in, folded_in, summed_more, besides_end}
 use borrow.Author.Rules.{rules}
 use Rattle.folds.proofs.besides.fixed_besides.Goals as goal
 

@@ -1,7 +1,6 @@
 -- `fixed_term`: the folded term at place i, added where its variable is none of the k binaries from place a on.
 use Rattle.space.specs.Store.{floats_of, numbers_of}
 use Rattle.folds.specs.Besides.{listed, besides_kept, besides_added}
-use borrow.Author.Rules.{rules}
 use Rattle.folds.proofs.besides.fixed_term.Goals as goal
 
 pub returns-then-has_among : goal.returns-then-has_among

@@ -1,11 +1,8 @@
 -- `has_among`: whether v is among the k binaries from place a on.
-use Prim.Native.Nat.{◌-◌, ◌≤◌}
-use mathlib.Core.Path.{◌≡◌}
-use lib.ListN.{drop}
-use Rattle.definition.specs.Work.{has}
+use Prim.Native.Nat.{◌-◌}
 use Rattle.space.specs.Store.{numbers_of}
 use Rattle.space.specs.Blocks.{binary_length}
-use Rattle.folds.specs.Besides.{listed, among_found, among_more, among_end}
+use Rattle.folds.specs.Besides.{among_found, among_more, among_end}
 use borrow.Author.Rules.{rules}
 use Rattle.folds.proofs.besides.has_among.Goals as goal
 

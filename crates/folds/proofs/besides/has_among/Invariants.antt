@@ -4,9 +4,7 @@ use mathlib.Core.Path.{◌≡◌}
 use lib.ListN.{drop}
 use Rattle.definition.specs.Work.{has}
 use Rattle.space.specs.Store.{numbers_of}
-use Rattle.space.specs.Blocks.{binary_length}
-use Rattle.folds.specs.Besides.{listed, among_found, among_more, among_end}
-use borrow.Author.Rules.{rules}
+use Rattle.folds.specs.Besides.{listed}
 use Rattle.folds.proofs.besides.has_among.Given as goal
 
 abbrev pub invariant-loop-i : goal.invariant-loop-i

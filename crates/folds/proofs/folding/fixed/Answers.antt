@@ -1,6 +1,5 @@
 -- `fixed` is fixed.
 use Rattle.folds.specs.FoldStep.{fixed_yes, fixed_no}
-use borrow.Author.Rules.{rules}
 use Rattle.folds.proofs.folding.fixed.Goals as goal
 
 pub returns-then-lo-get_ehi : goal.returns-then-lo-get_ehi

@@ -1,8 +1,5 @@
 -- `fold_loop` is fold_loop, over all terms.
-use mathlib.Core.Path.{◌≡◌}
-use lib.ListN.{length}
-use Rattle.space.specs.Store.{floats_of, numbers_of}
-use Rattle.folds.specs.FoldLoop.{Turned, turned_none, turn_at, turned_more, turned_end}
+use Rattle.folds.specs.FoldLoop.{turned_none, turn_at, turned_more, turned_end}
 use borrow.Author.Rules.{rules}
 use Rattle.folds.proofs.folding.fold_loop.Goals as goal
 

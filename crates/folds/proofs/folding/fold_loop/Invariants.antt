@@ -2,8 +2,7 @@
 use mathlib.Core.Path.{◌≡◌}
 use lib.ListN.{length}
 use Rattle.space.specs.Store.{floats_of, numbers_of}
-use Rattle.folds.specs.FoldLoop.{Turned, turned_none, turn_at, turned_more, turned_end}
-use borrow.Author.Rules.{rules}
+use Rattle.folds.specs.FoldLoop.{Turned}
 use Rattle.folds.proofs.folding.fold_loop.Given as goal
 
 abbrev pub invariant-loop-left : goal.invariant-loop-left

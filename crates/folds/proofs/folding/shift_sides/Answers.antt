@@ -1,7 +1,6 @@
 -- `shift_sides`: a term of the value y leaves a row's four floats.
 use Rattle.folds.specs.Folding.{shift_put}
 use Rattle.space.specs.Store.{floats_of}
-use borrow.Author.Rules.{rules}
 use Rattle.folds.proofs.folding.shift_sides.Goals as goal
 
 pub returns : goal.returns

@@ -1,7 +1,6 @@
 -- `swap_remove` is swap_remove: the last live term of the span that starts at a moves to place i of it.
 use Rattle.folds.specs.Folding.{swap_floats, swap_numbers}
 use Rattle.space.specs.Store.{floats_of, numbers_of}
-use borrow.Author.Rules.{rules}
 use Rattle.folds.proofs.folding.swap_remove.Goals as goal
 
 pub returns : goal.returns

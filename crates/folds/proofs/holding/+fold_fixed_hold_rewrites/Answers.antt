@@ -1,9 +1,9 @@
 -- `fold_fixed` and `hold_rewrites`: each by what the calls in it say.
-use Rattle.std.proofs.Common.{rules, arith}
+use Rattle.std.proofs.Common.{arith}
 use Rattle.space.specs.Store.{floats_of, numbers_of}
 use Rattle.view.specs.Known.{written_spans}
 use Rattle.folds.specs.Stands.{turns_under}
-use Rattle.folds.specs.Holding.{weight, given, in_spans, after_loop, after_relax, after_written, loop_weight, written_weight}
+use Rattle.folds.specs.Holding.{weight, in_spans, after_loop, after_relax, after_written, loop_weight, written_weight}
 use Rattle.folds.specs.Holding.{hold_none, hold_lo, hold_hi, hold_back, fold_less, fold_more}
 use Rattle.folds.proofs.holding.+fold_fixed_hold_rewrites.Goals as goal
 

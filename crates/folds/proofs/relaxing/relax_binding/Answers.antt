@@ -2,7 +2,6 @@
 use Rattle.space.specs.Store.{floats_of, numbers_of}
 use Rattle.space.specs.Blocks.{kept_length}
 use Rattle.folds.specs.Relaxing.{relax_none, relax_same, relax_more}
-use borrow.Author.Rules.{rules}
 use Rattle.folds.proofs.relaxing.relax_binding.Goals as goal
 
 pub returns-then-k-eq0 : goal.returns-then-k-eq0

@@ -2,7 +2,6 @@
 use Rattle.space.specs.Store.{floats_of}
 use Rattle.space.specs.Blocks.{hi_length, lo_length}
 use Rattle.folds.specs.Relaxing.{widen_hi, widen_lo}
-use borrow.Author.Rules.{rules}
 use Rattle.folds.proofs.relaxing.widen.Goals as goal
 
 pub returns-then-is_finite : goal.returns-then-is_finite

@@ -1,7 +1,6 @@
 -- `fold_row` is fold_fixed.
 use Rattle.view.specs.Known.{written_spans}
 use Rattle.folds.specs.Scan.{scan_turns}
-use borrow.Author.Rules.{rules}
 use Rattle.folds.proofs.scan.fold_row.Goals as goal
 
 pub returns : goal.returns

@@ -1,11 +1,7 @@
 -- `folds_any`: whether some term of a row leaves.
 use Prim.Native.Nat.{◌-◌}
-use native.Mathlib.Omega.{arith}
-use mathlib.Core.Path.{refl}
 use Rattle.space.specs.Store.{floats_of, numbers_of}
-use Rattle.folds.specs.FoldStep.{spans_long, live_in, var_in}
-use Rattle.folds.specs.Scan.{Stay, stay_start, stay_more, scanned_none, scanned_some}
-use borrow.Author.Rules.{rules}
+use Rattle.folds.specs.Scan.{Stay}
 use Rattle.folds.proofs.scan.folds_any.Given as goal
 
 abbrev pub invariant-loop-i : goal.invariant-loop-i

@@ -1,5 +1,4 @@
 -- `leaves`: whether the term at place i leaves: its coefficient is zero, or its variable is fixed.
-use borrow.Author.Rules.{rules}
 use Rattle.folds.specs.Scan.{leaves_zero, leaves_fixed}
 use Rattle.folds.proofs.scan.leaves.Goals as goal
 

@@ -2,7 +2,6 @@
 use native.Mathlib.Omega.{arith}
 use Rattle.folds.specs.Sized.{sized}
 use Rattle.folds.specs.Written.{starts_long, cmp_long, rhs_long, index_long, coeff_long, span_rises, span_within, as_written_end}
-use borrow.Author.Rules.{rules}
 use Rattle.folds.proofs.written.as_written.Goals as goal
 
 pub bounds-starts-r : goal.bounds-starts-r

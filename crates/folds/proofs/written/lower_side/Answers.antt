@@ -1,7 +1,6 @@
 -- `lower_side`: a row's lower side, by its comparison.
 use Rattle.folds.specs.Written.{side_yes, side_no, below_inf}
 use Rattle.floats.specs.Num.{∞f, -∞f}
-use borrow.Author.Rules.{rules}
 use Rattle.folds.proofs.written.lower_side.Goals as goal
 
 pub returns-then-cmp-r-eq1 : goal.returns-then-cmp-r-eq1

@@ -1,7 +1,6 @@
 -- `upper_side`: a row's upper side, by its comparison.
 use Rattle.folds.specs.Written.{side_yes, side_no}
 use mathlib.Core.Path.{◌∙◌}
-use borrow.Author.Rules.{rules}
 use Rattle.folds.proofs.written.upper_side.Goals as goal
 
 pub returns-then-cmp-r-eq2 : goal.returns-then-cmp-r-eq2

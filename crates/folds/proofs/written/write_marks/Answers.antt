@@ -1,7 +1,6 @@
 -- `write_marks`: a row of n terms, alive, with nothing folded or rewritten.
 use Rattle.folds.specs.Written.{marks_put_lem}
 use Rattle.space.specs.Store.{numbers_of}
-use borrow.Author.Rules.{rules}
 use Rattle.folds.proofs.written.write_marks.Goals as goal
 
 pub returns : goal.returns

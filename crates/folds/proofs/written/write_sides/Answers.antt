@@ -1,7 +1,6 @@
 -- `write_sides`: a row's four floats, with nothing folded.
 use Rattle.folds.specs.Written.{sides_put_lem}
 use Rattle.space.specs.Store.{floats_of}
-use borrow.Author.Rules.{rules}
 use Rattle.folds.proofs.written.write_sides.Goals as goal
 
 pub returns : goal.returns

@@ -1,11 +1,9 @@
 -- `write_terms`: the input's terms from place a up to e, all live.
-use Prim.Native.Nat.{◌-◌, ◌≤◌}
+use Prim.Native.Nat.{◌-◌}
 use native.Mathlib.Omega.{arith}
-use mathlib.Core.Path.{◌≡◌, refl}
-use lib.ListN.{length}
-use Rattle.space.specs.Store.{floats_of, numbers_of}
+use mathlib.Core.Path.{refl}
 use Rattle.folds.specs.Sized.{sized}
-use Rattle.folds.specs.Written.{Copied, copied_none, copied_more, copied_end}
+use Rattle.folds.specs.Written.{copied_none, copied_more, copied_end}
 use borrow.Author.Rules.{rules}
 use Rattle.folds.proofs.written.write_terms.Goals as goal
 

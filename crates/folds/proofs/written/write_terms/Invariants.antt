@@ -1,12 +1,9 @@
 -- `write_terms`: the input's terms from place a up to e, all live.
 use Prim.Native.Nat.{◌-◌, ◌≤◌}
-use native.Mathlib.Omega.{arith}
-use mathlib.Core.Path.{◌≡◌, refl}
+use mathlib.Core.Path.{◌≡◌}
 use lib.ListN.{length}
 use Rattle.space.specs.Store.{floats_of, numbers_of}
-use Rattle.folds.specs.Sized.{sized}
-use Rattle.folds.specs.Written.{Copied, copied_none, copied_more, copied_end}
-use borrow.Author.Rules.{rules}
+use Rattle.folds.specs.Written.{Copied}
 use Rattle.folds.proofs.written.write_terms.Given as goal
 
 abbrev pub invariant-loop-i : goal.invariant-loop-i

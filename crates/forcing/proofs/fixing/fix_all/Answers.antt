@@ -2,13 +2,10 @@
 use borrow.Author.Rules.{rules}
 use Prim.Native.Nat.{◌-◌}
 use native.Mathlib.Omega.{arith}
-use mathlib.Core.Path.{◌≡◌}
-use lib.ListN.{length}
-use Rattle.space.specs.Store.{floats_of, numbers_of}
 use Rattle.view.specs.Steps.{ready_under, acts_under}
-use Rattle.rows.specs.Knowing.{Marks, marks_spans, marks_adj, span_at}
-use Rattle.rows.specs.Loop.{Turning, turning_ready, still_place, still_small, still_var}
-use Rattle.forcing.specs.Fixing.{Fixing, fixing_rows, fixing_turn, fixing_end}
+use Rattle.rows.specs.Knowing.{marks_spans, marks_adj, span_at}
+use Rattle.rows.specs.Loop.{turning_ready, still_place, still_small, still_var}
+use Rattle.forcing.specs.Fixing.{fixing_rows, fixing_turn, fixing_end}
 use Rattle.forcing.proofs.fixing.fix_all.Goals as goal
 
 pub bounds-starts-r : goal.bounds-starts-r

@@ -1,6 +1,5 @@
 -- `fix_term` is fix, of a term's variable at the corner of its bounds.
 use Rattle.forcing.specs.Fixing.{fix_corner}
-use borrow.Author.Rules.{rules}
 use Rattle.forcing.proofs.fixing.fix_term.Goals as goal
 
 pub returns : goal.returns

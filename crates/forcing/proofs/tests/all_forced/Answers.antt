@@ -2,11 +2,10 @@
 use borrow.Author.Rules.{rules}
 use Prim.Native.Nat.{◌-◌}
 use native.Mathlib.Omega.{arith}
-use Rattle.space.specs.Store.{floats_of, numbers_of}
 use Rattle.readers.specs.Reading.{domain_in}
 use Rattle.readers.specs.RowAt.{live_place, live_var}
 use Rattle.rows.specs.Knowing.{looks_spans, looks_domains, span_at}
-use Rattle.forcing.specs.Forced.{live_small, Testing, testing_turn, testing_fails, testing_end}
+use Rattle.forcing.specs.Forced.{live_small, testing_turn, testing_fails, testing_end}
 use Rattle.forcing.proofs.tests.all_forced.Goals as goal
 
 pub bounds-starts-r : goal.bounds-starts-r

@@ -1,6 +1,5 @@
 -- `forced_term` is forced_term.
 use Rattle.forcing.specs.Forced.{forced_is}
-use borrow.Author.Rules.{rules}
 use Rattle.forcing.proofs.tests.forced_term.Goals as goal
 
 pub returns : goal.returns

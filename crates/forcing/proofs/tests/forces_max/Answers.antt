@@ -1,7 +1,6 @@
 -- `forces_max` is forces_max.
 use Rattle.rows.specs.Knowing.{looks_spans, span_at}
 use Rattle.forcing.specs.Forced.{max_far, max_open, max_at}
-use borrow.Author.Rules.{rules}
 use Rattle.forcing.proofs.tests.forces_max.Goals as goal
 
 pub written_terms-n-requires : goal.written_terms-n-requires

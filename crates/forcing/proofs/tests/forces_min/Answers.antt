@@ -1,7 +1,6 @@
 -- `forces_min` is forces_min.
 use Rattle.rows.specs.Knowing.{looks_spans, span_at}
 use Rattle.forcing.specs.Forced.{min_far, min_open, min_at}
-use borrow.Author.Rules.{rules}
 use Rattle.forcing.proofs.tests.forces_min.Goals as goal
 
 pub written_terms-n-requires : goal.written_terms-n-requires

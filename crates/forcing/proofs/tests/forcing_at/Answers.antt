@@ -1,7 +1,6 @@
 -- `forcing_at` is forcing_at.
 use Rattle.rows.specs.Knowing.{looks_spans, span_at}
 use Rattle.forcing.specs.Forced.{forcing_not, forcing_all}
-use borrow.Author.Rules.{rules}
 use Rattle.forcing.proofs.tests.forcing_at.Goals as goal
 
 pub written_terms-n-requires : goal.written_terms-n-requires

@@ -1,6 +1,5 @@
 -- `activity_step` computes its definition, by the sign of the coefficient.
 use Rattle.formulas.specs.Terms.{step_positive, step_other}
-use Rattle.std.proofs.Common.{rules}
 use Rattle.formulas.proofs.activity.activity_step.Goals as goal
 
 pub returns-then-a : goal.returns-then-a

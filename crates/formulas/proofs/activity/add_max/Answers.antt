@@ -1,5 +1,5 @@
 -- `add_max` computes its definition.
-use Rattle.std.proofs.Common.{sym, ◌∙◌, rules}
+use Rattle.std.proofs.Common.{sym, ◌∙◌}
 use Rattle.floats.specs.Num.{choose}
 use Rattle.formulas.specs.Terms.{with_max}
 use Rattle.formulas.proofs.activity.add_max.Goals as goal

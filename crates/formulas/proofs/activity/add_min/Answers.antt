@@ -1,5 +1,5 @@
 -- `add_min` computes its definition.
-use Rattle.std.proofs.Common.{sym, ◌∙◌, rules}
+use Rattle.std.proofs.Common.{sym, ◌∙◌}
 use Rattle.floats.specs.Num.{choose}
 use Rattle.formulas.specs.Terms.{with_min}
 use Rattle.formulas.proofs.activity.add_min.Goals as goal

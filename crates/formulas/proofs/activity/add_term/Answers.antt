@@ -1,5 +1,4 @@
 -- `add_term` is its three parts, one after the other.
-use Rattle.std.proofs.Common.{rules}
 use Rattle.formulas.proofs.activity.add_term.Goals as goal
 
 pub returns : goal.returns

@@ -1,5 +1,5 @@
 -- `rounded_lower` computes its definition.
-use Rattle.std.proofs.Common.{sym, ◌∙◌, rules}
+use Rattle.std.proofs.Common.{sym, ◌∙◌}
 use Rattle.floats.specs.Num.{choose}
 use Rattle.definition.specs.Begin.{rounded_lower}
 use Rattle.formulas.proofs.begin.rounded_lower.Goals as goal

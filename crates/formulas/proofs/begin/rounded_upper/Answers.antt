@@ -1,5 +1,5 @@
 -- `rounded_upper` computes its definition.
-use Rattle.std.proofs.Common.{sym, ◌∙◌, rules}
+use Rattle.std.proofs.Common.{sym, ◌∙◌}
 use Rattle.floats.specs.Num.{choose}
 use Rattle.definition.specs.Begin.{rounded_upper}
 use Rattle.formulas.proofs.begin.rounded_upper.Goals as goal

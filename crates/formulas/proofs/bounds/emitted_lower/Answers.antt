@@ -1,5 +1,4 @@
 -- `emitted_lower` computes its definition.
-use Rattle.std.proofs.Common.{rules}
 use Rattle.formulas.specs.Moves.{emitted_lower}
 use Rattle.formulas.proofs.bounds.emitted_lower.Goals as goal
 

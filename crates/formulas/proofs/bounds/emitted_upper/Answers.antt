@@ -1,5 +1,4 @@
 -- `emitted_upper` computes its definition.
-use Rattle.std.proofs.Common.{rules}
 use Rattle.formulas.specs.Moves.{emitted_upper}
 use Rattle.formulas.proofs.bounds.emitted_upper.Goals as goal
 

@@ -1,5 +1,4 @@
 -- `lower_real_move` computes its definition.
-use Rattle.std.proofs.Common.{rules}
 use Rattle.floats.specs.Num.{choose}
 use Rattle.formulas.specs.Moves.{lower_real_move}
 use Rattle.formulas.proofs.bounds.lower_real_move.Goals as goal

@@ -1,5 +1,5 @@
 -- `lower_stays`, by the kind of the variable.
-use Rattle.std.proofs.Common.{sym, ap, ◌∙◌, rules}
+use Rattle.std.proofs.Common.{sym, ap, ◌∙◌}
 use lib.Ieee.{Float, le}
 use Rattle.floats.specs.Num.{◌⊕◌, ½f}
 use Rattle.formulas.specs.Stays.{lower_still, takes, skips, held_so, lower_int_stays, lower_real_stays}

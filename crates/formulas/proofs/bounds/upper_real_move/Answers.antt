@@ -1,5 +1,4 @@
 -- `upper_real_move` computes its definition.
-use Rattle.std.proofs.Common.{rules}
 use Rattle.floats.specs.Num.{choose}
 use Rattle.formulas.specs.Moves.{upper_real_move}
 use Rattle.formulas.proofs.bounds.upper_real_move.Goals as goal

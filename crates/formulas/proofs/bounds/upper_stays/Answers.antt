@@ -1,5 +1,5 @@
 -- `upper_stays`, by the kind of the variable.
-use Rattle.std.proofs.Common.{sym, ap, ◌∙◌, rules}
+use Rattle.std.proofs.Common.{sym, ap, ◌∙◌}
 use lib.Ieee.{le}
 use Rattle.floats.specs.Num.{◌⊖◌, ½f}
 use Rattle.formulas.specs.Stays.{upper_still, takes, skips, held_so, upper_int_stays, upper_real_stays}

@@ -1,5 +1,4 @@
 -- `fixed_at` computes its definition.
-use Rattle.std.proofs.Common.{rules}
 use Rattle.formulas.specs.Fixing.{fixed_at}
 use Rattle.formulas.proofs.fixing.fixed_at.Goals as goal
 

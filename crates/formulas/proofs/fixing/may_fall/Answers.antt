@@ -1,5 +1,4 @@
 -- `may_fall` computes its definition.
-use Rattle.std.proofs.Common.{rules}
 use Rattle.formulas.specs.Fixing.{falls_at}
 use Rattle.formulas.proofs.fixing.may_fall.Goals as goal
 

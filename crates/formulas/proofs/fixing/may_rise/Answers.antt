@@ -1,5 +1,4 @@
 -- `may_rise` computes its definition.
-use Rattle.std.proofs.Common.{rules}
 use Rattle.formulas.specs.Fixing.{rises_at}
 use Rattle.formulas.proofs.fixing.may_rise.Goals as goal
 

@@ -1,5 +1,5 @@
 -- `rewrite_room` computes its definition.
-use Rattle.std.proofs.Common.{sym, ◌∙◌, rules}
+use Rattle.std.proofs.Common.{sym, ◌∙◌}
 use Rattle.floats.specs.Num.{choose}
 use Rattle.definition.specs.Folds.{rewrite_room}
 use Rattle.formulas.proofs.folding.rewrite_room.Goals as goal

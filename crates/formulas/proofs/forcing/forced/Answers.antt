@@ -1,5 +1,4 @@
 -- `forced` computes its definition.
-use Rattle.std.proofs.Common.{rules}
 use Rattle.formulas.specs.Forcing.{forced_by}
 use Rattle.formulas.proofs.forcing.forced.Goals as goal
 

@@ -1,5 +1,4 @@
 -- `sliver_fits` computes its definition.
-use Rattle.std.proofs.Common.{rules}
 use Rattle.formulas.specs.Forcing.{sliver_fits}
 use Rattle.formulas.proofs.forcing.sliver_fits.Goals as goal
 

@@ -1,5 +1,5 @@
 -- `finite_abs` computes its definition.
-use Rattle.std.proofs.Common.{sym, ◌∙◌, rules}
+use Rattle.std.proofs.Common.{sym, ◌∙◌}
 use Rattle.floats.specs.Num.{choose}
 use Rattle.definition.specs.Implied.{finite_abs}
 use Rattle.formulas.proofs.implied.finite_abs.Goals as goal

@@ -1,5 +1,4 @@
 -- `relaxation` computes its definition.
-use Rattle.std.proofs.Common.{rules}
 use Rattle.formulas.specs.Implied.{relax_of}
 use Rattle.formulas.proofs.implied.relaxation.Goals as goal
 

@@ -1,5 +1,5 @@
 -- `rest_of` computes its definition.
-use Rattle.std.proofs.Common.{sym, ◌∙◌, rules, eq-eqb, ne_eqb}
+use Rattle.std.proofs.Common.{sym, ◌∙◌, eq-eqb, ne_eqb}
 use Rattle.floats.specs.Num.{choose}
 use Rattle.definition.specs.Implied.{rest_of}
 use Rattle.formulas.proofs.implied.rest_of.Goals as goal

@@ -1,5 +1,4 @@
 -- `after_bound` computes its definition.
-use Rattle.std.proofs.Common.{rules}
 use Rattle.definition.specs.Rewrites.{act_after}
 use Rattle.formulas.proofs.rewrites.after_bound.Goals as goal
 

@@ -1,5 +1,5 @@
 -- `form_of` computes its definition.
-use Rattle.std.proofs.Common.{sym, ◌∙◌, rules}
+use Rattle.std.proofs.Common.{sym, ◌∙◌}
 use Rattle.floats.specs.Num.{choose}
 use Rattle.definition.specs.Rewrites.{form_of}
 use Rattle.formulas.proofs.rewrites.form_of.Goals as goal

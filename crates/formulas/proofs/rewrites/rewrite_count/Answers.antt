@@ -1,5 +1,4 @@
 -- `rewrite_count` computes its definition.
-use Rattle.std.proofs.Common.{rules}
 use Rattle.definition.specs.Rewrites.{rewrites}
 use Rattle.formulas.proofs.rewrites.rewrite_count.Goals as goal
 

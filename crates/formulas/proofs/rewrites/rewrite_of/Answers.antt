@@ -1,5 +1,4 @@
 -- `rewrite_of` computes its definition.
-use Rattle.std.proofs.Common.{rules}
 use Rattle.floats.specs.Num.{choose}
 use Rattle.formulas.specs.Rewriting.{rewrite_at}
 use Rattle.formulas.proofs.rewrites.rewrite_of.Goals as goal

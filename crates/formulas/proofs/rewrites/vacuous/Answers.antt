@@ -1,5 +1,5 @@
 -- `vacuous` computes its definition.
-use Rattle.std.proofs.Common.{rules, eq-eqb, ne_eqb}
+use Rattle.std.proofs.Common.{eq-eqb, ne_eqb}
 use Rattle.floats.specs.Num.{choose}
 use Rattle.definition.specs.Rewrites.{vacuous}
 use Rattle.formulas.proofs.rewrites.vacuous.Goals as goal

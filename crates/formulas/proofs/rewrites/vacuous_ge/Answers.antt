@@ -1,5 +1,4 @@
 -- `vacuous_ge` computes its definition.
-use Rattle.std.proofs.Common.{rules}
 use Rattle.floats.specs.Num.{choose}
 use Rattle.definition.specs.Rewrites.{vacuous_ge}
 use Rattle.formulas.proofs.rewrites.vacuous_ge.Goals as goal

@@ -1,5 +1,4 @@
 -- `vacuous_le` computes its definition.
-use Rattle.std.proofs.Common.{rules}
 use Rattle.floats.specs.Num.{choose}
 use Rattle.definition.specs.Rewrites.{vacuous_le}
 use Rattle.formulas.proofs.rewrites.vacuous_le.Goals as goal

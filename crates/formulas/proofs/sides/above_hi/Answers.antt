@@ -1,5 +1,5 @@
 -- `above_hi` computes its definition.
-use Rattle.std.proofs.Common.{sym, ◌∙◌, rules}
+use Rattle.std.proofs.Common.{sym, ◌∙◌}
 use Rattle.floats.specs.Num.{choose}
 use Rattle.definition.specs.Sides.{budget_l, above_hi}
 use Rattle.formulas.proofs.sides.above_hi.Goals as goal

@@ -1,5 +1,5 @@
 -- `below_lo` computes its definition.
-use Rattle.std.proofs.Common.{sym, ◌∙◌, rules}
+use Rattle.std.proofs.Common.{sym, ◌∙◌}
 use Rattle.floats.specs.Num.{choose}
 use Rattle.definition.specs.Sides.{budget_u, below_lo}
 use Rattle.formulas.proofs.sides.below_lo.Goals as goal

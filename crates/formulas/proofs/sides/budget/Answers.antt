@@ -1,5 +1,4 @@
 -- `budget` computes its definition.
-use Rattle.std.proofs.Common.{rules}
 use Rattle.definition.specs.Work.{budget}
 use Rattle.formulas.proofs.sides.budget.Goals as goal
 

@@ -1,5 +1,5 @@
 -- `hi_side` computes its definition.
-use Rattle.std.proofs.Common.{sym, ◌∙◌, rules}
+use Rattle.std.proofs.Common.{sym, ◌∙◌}
 use Rattle.definition.specs.Sides.{hi_side}
 use Rattle.formulas.proofs.sides.hi_side.Goals as goal
 

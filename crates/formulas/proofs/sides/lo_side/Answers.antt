@@ -1,5 +1,5 @@
 -- `lo_side` computes its definition.
-use Rattle.std.proofs.Common.{sym, ◌∙◌, rules}
+use Rattle.std.proofs.Common.{sym, ◌∙◌}
 use Rattle.definition.specs.Sides.{lo_side}
 use Rattle.formulas.proofs.sides.lo_side.Goals as goal
 

@@ -1,5 +1,4 @@
 -- `mag_both` computes its definition.
-use Rattle.std.proofs.Common.{rules}
 use Rattle.definition.specs.Sides.{mag_both}
 use Rattle.formulas.proofs.sides.mag_both.Goals as goal
 

@@ -1,5 +1,4 @@
 -- `mag_l` computes its definition.
-use Rattle.std.proofs.Common.{rules}
 use Rattle.definition.specs.Sides.{mag_l}
 use Rattle.formulas.proofs.sides.mag_l.Goals as goal
 

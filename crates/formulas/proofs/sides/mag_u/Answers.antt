@@ -1,5 +1,4 @@
 -- `mag_u` computes its definition.
-use Rattle.std.proofs.Common.{rules}
 use Rattle.definition.specs.Sides.{mag_u}
 use Rattle.formulas.proofs.sides.mag_u.Goals as goal
 

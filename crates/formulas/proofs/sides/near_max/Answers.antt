@@ -1,5 +1,5 @@
 -- `near_max` computes its definition.
-use Rattle.std.proofs.Common.{sym, ◌∙◌, rules}
+use Rattle.std.proofs.Common.{sym, ◌∙◌}
 use Rattle.floats.specs.Num.{choose}
 use Rattle.definition.specs.Sides.{budget_u, near_max}
 use Rattle.formulas.proofs.sides.near_max.Goals as goal

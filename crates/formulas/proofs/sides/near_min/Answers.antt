@@ -1,5 +1,5 @@
 -- `near_min` computes its definition.
-use Rattle.std.proofs.Common.{sym, ◌∙◌, rules}
+use Rattle.std.proofs.Common.{sym, ◌∙◌}
 use Rattle.floats.specs.Num.{choose}
 use Rattle.definition.specs.Sides.{budget_l, near_min}
 use Rattle.formulas.proofs.sides.near_min.Goals as goal

@@ -1,5 +1,5 @@
 -- `redundant` computes its definition.
-use Rattle.std.proofs.Common.{sym, ◌∙◌, rules}
+use Rattle.std.proofs.Common.{sym, ◌∙◌}
 use Rattle.definition.specs.Sides.{redundant}
 use Rattle.formulas.proofs.sides.redundant.Goals as goal
 

@@ -1,5 +1,4 @@
 -- `rhs_mag` computes its definition.
-use Rattle.std.proofs.Common.{rules}
 use Rattle.definition.specs.Model.{rhs_mag}
 use Rattle.formulas.proofs.sides.rhs_mag.Goals as goal
 

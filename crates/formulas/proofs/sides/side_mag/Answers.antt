@@ -1,5 +1,5 @@
 -- `side_mag` computes its definition.
-use Rattle.std.proofs.Common.{sym, ◌∙◌, rules}
+use Rattle.std.proofs.Common.{sym, ◌∙◌}
 use Rattle.floats.specs.Num.{choose}
 use Rattle.definition.specs.Sides.{side_mag}
 use Rattle.formulas.proofs.sides.side_mag.Goals as goal

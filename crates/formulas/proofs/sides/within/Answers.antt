@@ -1,5 +1,5 @@
 -- `within` computes its definition.
-use Rattle.std.proofs.Common.{sym, ◌∙◌, rules}
+use Rattle.std.proofs.Common.{sym, ◌∙◌}
 use Rattle.definition.specs.Sides.{within}
 use Rattle.formulas.proofs.sides.within.Goals as goal
 

@@ -1,5 +1,5 @@
 -- `within_by` computes its definition.
-use Rattle.std.proofs.Common.{sym, ◌∙◌, rules}
+use Rattle.std.proofs.Common.{sym, ◌∙◌}
 use Rattle.definition.specs.Sides.{within_by}
 use Rattle.formulas.proofs.sides.within_by.Goals as goal
 

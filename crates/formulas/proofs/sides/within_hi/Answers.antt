@@ -1,5 +1,5 @@
 -- `within_hi` computes its definition.
-use Rattle.std.proofs.Common.{sym, ◌∙◌, rules, eq-eqb, ne_eqb}
+use Rattle.std.proofs.Common.{sym, ◌∙◌, eq-eqb, ne_eqb}
 use Rattle.definition.specs.Sides.{within_hi}
 use Rattle.formulas.proofs.sides.within_hi.Goals as goal
 

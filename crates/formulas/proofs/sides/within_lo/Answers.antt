@@ -1,5 +1,5 @@
 -- `within_lo` computes its definition.
-use Rattle.std.proofs.Common.{sym, ◌∙◌, rules, eq-eqb, ne_eqb}
+use Rattle.std.proofs.Common.{sym, ◌∙◌, eq-eqb, ne_eqb}
 use Rattle.definition.specs.Sides.{within_lo}
 use Rattle.formulas.proofs.sides.within_lo.Goals as goal
 

@@ -1,5 +1,4 @@
 -- `dropped_room` computes its definition.
-use Rattle.std.proofs.Common.{rules}
 use Rattle.definition.specs.Singles.{dropped_room}
 use Rattle.formulas.proofs.singles.dropped_room.Goals as goal
 

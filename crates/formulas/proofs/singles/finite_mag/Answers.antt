@@ -1,5 +1,5 @@
 -- `finite_mag` computes its definition.
-use Rattle.std.proofs.Common.{sym, ◌∙◌, rules}
+use Rattle.std.proofs.Common.{sym, ◌∙◌}
 use Rattle.floats.specs.Num.{choose}
 use Rattle.definition.specs.Singles.{finite_mag}
 use Rattle.formulas.proofs.singles.finite_mag.Goals as goal

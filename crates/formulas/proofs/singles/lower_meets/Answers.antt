@@ -1,5 +1,5 @@
 -- `lower_meets` computes its definition.
-use Rattle.std.proofs.Common.{sym, ◌∙◌, rules}
+use Rattle.std.proofs.Common.{sym, ◌∙◌}
 use Rattle.formulas.specs.Singles.{meets_lower}
 use Rattle.formulas.proofs.singles.lower_meets.Goals as goal
 

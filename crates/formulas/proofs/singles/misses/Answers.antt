@@ -1,5 +1,4 @@
 -- `misses` computes its definition.
-use Rattle.std.proofs.Common.{rules}
 use Rattle.formulas.specs.Singles.{misses_at}
 use Rattle.formulas.proofs.singles.misses.Goals as goal
 

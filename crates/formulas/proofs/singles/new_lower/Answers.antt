@@ -1,5 +1,5 @@
 -- `new_lower` computes its definition.
-use Rattle.std.proofs.Common.{sym, ◌∙◌, rules}
+use Rattle.std.proofs.Common.{sym, ◌∙◌}
 use Rattle.floats.specs.Num.{choose}
 use Rattle.definition.specs.Singles.{new_lower}
 use Rattle.formulas.proofs.singles.new_lower.Goals as goal

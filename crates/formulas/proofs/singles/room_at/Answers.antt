@@ -1,5 +1,4 @@
 -- `room_at` computes its definition.
-use Rattle.std.proofs.Common.{rules}
 use Rattle.definition.specs.Singles.{room_at}
 use Rattle.formulas.proofs.singles.room_at.Goals as goal
 

@@ -1,5 +1,5 @@
 -- `upper_meets` computes its definition.
-use Rattle.std.proofs.Common.{sym, ◌∙◌, rules}
+use Rattle.std.proofs.Common.{sym, ◌∙◌}
 use Rattle.formulas.specs.Singles.{meets_upper}
 use Rattle.formulas.proofs.singles.upper_meets.Goals as goal
 

@@ -1,5 +1,4 @@
 -- `widened_at` computes its definition.
-use Rattle.std.proofs.Common.{rules}
 use Rattle.definition.specs.Singles.{widened_at}
 use Rattle.formulas.proofs.singles.widened_at.Goals as goal
 

@@ -3,7 +3,6 @@ use mathlib.Core.Path.{ap, ◌∙◌}
 use Rattle.model_file.specs.Places.{settings_got}
 use Rattle.model_file.specs.Skips.{next_got}
 use Rattle.model_file.specs.Answers.{ready_unsettled, ready_vars, ready_no, ready_rows, ready_terms, ready_end}
-use borrow.Author.Rules.{rules}
 use Rattle.model_file.proofs.fill.fill_model.Goals as goal
 
 pub returns-in-Refused : goal.returns-in-Refused

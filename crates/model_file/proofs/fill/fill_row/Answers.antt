@@ -4,7 +4,6 @@ use mathlib.Core.Path.{ap, ◌∙◌, subst}
 use Rattle.model_file.specs.Places.{head_got, HeadWithin}
 use Rattle.model_file.specs.Skips.{next_got, row_passed, row_headless, row_cut}
 use Rattle.model_file.specs.Fills.{row_room, row_unread, row_read, counted}
-use borrow.Author.Rules.{rules}
 use Rattle.model_file.proofs.fill.fill_row.Goals as goal
 
 pub overflow_add-e : goal.overflow_add-e

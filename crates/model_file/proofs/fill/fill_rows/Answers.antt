@@ -1,11 +1,11 @@
 -- The rows that are left give the whole. There is room for the terms of those that are left.
 use native.Mathlib.Omega.{arith}
 use Prim.Native.Nat.{◌-◌}
-use mathlib.Core.Path.{◌≡◌, ap, ◌∙◌, subst}
-use lib.ListN.{length, drop, length-set}
+use mathlib.Core.Path.{ap, ◌∙◌, subst}
+use lib.ListN.{length, length-set}
 use Rattle.model_file.specs.Places.{number_got}
 use Rattle.model_file.specs.Skips.{RowWithin}
-use Rattle.model_file.specs.Fills.{RowsFilling, row_columns, rows_room_lem, rows_filling, rows_filling_turn, rows_filling_bad, rows_filling_end}
+use Rattle.model_file.specs.Fills.{rows_room_lem, rows_filling, rows_filling_turn, rows_filling_bad, rows_filling_end}
 use borrow.Author.Rules.{rules}
 use Rattle.model_file.proofs.fill.fill_rows.Goals as goal
 

@@ -1,11 +1,10 @@
 -- The terms that are left give the whole.
 use Prim.Native.Nat.{◌-◌}
-use mathlib.Core.Path.{◌≡◌, refl, ap, ◌∙◌}
-use lib.ListN.{length, drop, length-set}
+use mathlib.Core.Path.{refl, ap, ◌∙◌}
+use lib.ListN.{length, length-set}
 use Rattle.model_file.specs.Format.{term}
 use Rattle.model_file.specs.Places.{term_got}
-use Rattle.model_file.specs.Fills.{Filling, put_term, term_columns, filling_turn, filling_bad, filling_end}
-use borrow.Author.Rules.{rules}
+use Rattle.model_file.specs.Fills.{filling_turn, filling_bad, filling_end}
 use Rattle.model_file.proofs.fill.fill_terms.Goals as goal
 
 pub returns-in-Refused : goal.returns-in-Refused

@@ -1,11 +1,10 @@
 -- The variables that are left give the whole.
 use native.Mathlib.Nat.{sub-zero}
 use Prim.Native.Nat.{◌-◌}
-use mathlib.Core.Path.{◌≡◌, ap, ◌∙◌}
-use lib.ListN.{length, drop}
+use mathlib.Core.Path.{ap, ◌∙◌}
 use Rattle.model_file.specs.Format.{variable}
 use Rattle.model_file.specs.Places.{variable_got}
-use Rattle.model_file.specs.Fills.{Filling, put_var, var_columns, filling_turn, filling_bad, filling_end}
+use Rattle.model_file.specs.Fills.{put_var, filling_turn, filling_bad, filling_end}
 use borrow.Author.Rules.{rules}
 use Rattle.model_file.proofs.fill.fill_variables.Goals as goal
 

@@ -1,12 +1,9 @@
 -- The variables that are left give the whole.
-use native.Mathlib.Nat.{sub-zero}
 use Prim.Native.Nat.{◌-◌}
-use mathlib.Core.Path.{◌≡◌, ap, ◌∙◌}
+use mathlib.Core.Path.{◌≡◌}
 use lib.ListN.{length, drop}
 use Rattle.model_file.specs.Format.{variable}
-use Rattle.model_file.specs.Places.{variable_got}
-use Rattle.model_file.specs.Fills.{Filling, put_var, var_columns, filling_turn, filling_bad, filling_end}
-use borrow.Author.Rules.{rules}
+use Rattle.model_file.specs.Fills.{Filling, put_var, var_columns}
 use Rattle.model_file.proofs.fill.fill_variables.Given as goal
 
 abbrev pub invariant-loop-v : goal.invariant-loop-v

@@ -1,7 +1,6 @@
 -- A count is missing, above its limit, or read.
 use native.Mathlib.Omega.{arith}
 use Rattle.model_file.specs.Places.{count_end, count_over, count_got}
-use borrow.Author.Rules.{rules}
 use Rattle.model_file.proofs.numbers.read_count.Goals as goal
 
 pub returns-then-left-lt2 : goal.returns-then-left-lt2

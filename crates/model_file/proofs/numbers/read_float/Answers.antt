@@ -1,7 +1,6 @@
 -- Eight bytes are missing, or are the float's pattern.
 use native.Mathlib.Omega.{arith}
 use Rattle.model_file.specs.Places.{float_end, float_got_lem}
-use borrow.Author.Rules.{rules}
 use Rattle.model_file.proofs.numbers.read_float.Goals as goal
 
 pub returns-then-left-lt8 : goal.returns-then-left-lt8

@@ -1,6 +1,5 @@
 -- A float that is announced is read; else the default stands.
 use Rattle.model_file.specs.Places.{optional_present, optional_absent}
-use borrow.Author.Rules.{rules}
 use Rattle.model_file.proofs.numbers.read_optional.Goals as goal
 
 pub returns-then-present : goal.returns-then-present

@@ -2,7 +2,6 @@
 use native.Mathlib.Omega.{arith}
 use Rattle.model_file.specs.Places.{two_value}
 use Prim.Native.Nat.{◌+◌}
-use borrow.Author.Rules.{rules}
 use Rattle.model_file.proofs.numbers.u16_at.Goals as goal
 
 pub overflow_cast-result : goal.overflow_cast-result

@@ -1,7 +1,6 @@
 -- Two numbers of two bytes.
 use native.Mathlib.Omega.{arith}
 use Rattle.model_file.specs.Places.{four_value}
-use borrow.Author.Rules.{rules}
 use Rattle.model_file.proofs.numbers.u32_at.Goals as goal
 
 pub overflow_mul-result : goal.overflow_mul-result

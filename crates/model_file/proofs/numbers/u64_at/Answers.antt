@@ -1,7 +1,6 @@
 -- Two numbers of four bytes.
 use native.Mathlib.Omega.{arith}
 use Rattle.model_file.specs.Places.{eight_value}
-use borrow.Author.Rules.{rules}
 use Rattle.model_file.proofs.numbers.u64_at.Goals as goal
 
 pub returns : goal.returns

@@ -1,6 +1,5 @@
 -- A row's map is tested before what it announces.
 use Rattle.model_file.specs.Places.{head_end, head_reserved, head_code, head_side}
-use borrow.Author.Rules.{rules}
 use Rattle.model_file.proofs.parts.read_head.Goals as goal
 
 pub returns-then-s-at : goal.returns-then-s-at

@@ -4,7 +4,6 @@ use mathlib.Core.Path.{◌∙◌, ap, refl}
 use Rattle.model_file.specs.Format.{side}
 use Rattle.model_file.specs.Places.{then_got, then_refused, float_got, optional_is, number_is, number_end, refuse_yes, refuse_no}
 use borrow.Author.Tests.{lt-ltb, le-ltb}
-use borrow.Author.Rules.{rules}
 use Rattle.model_file.proofs.parts.read_side.Goals as goal
 
 pub returns-then-left-lt2 : goal.returns-then-left-lt2

@@ -3,7 +3,6 @@ use native.Mathlib.Omega.{arith}
 use mathlib.Core.Path.{◌∙◌, ap}
 use Rattle.model_file.specs.Format.{term}
 use Rattle.model_file.specs.Places.{then_got, then_refused, number_is, number_end, float_got}
-use borrow.Author.Rules.{rules}
 use Rattle.model_file.proofs.parts.read_term.Goals as goal
 
 pub returns-then-left-lt2 : goal.returns-then-left-lt2

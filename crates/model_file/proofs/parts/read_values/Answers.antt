@@ -2,7 +2,6 @@
 use mathlib.Core.Path.{◌∙◌, ap, refl}
 use Rattle.model_file.specs.Format.{values}
 use Rattle.model_file.specs.Places.{then_got, then_refused, float_got, optional_is}
-use borrow.Author.Rules.{rules}
 use Rattle.model_file.proofs.parts.read_values.Goals as goal
 
 pub returns-in-Refused : goal.returns-in-Refused

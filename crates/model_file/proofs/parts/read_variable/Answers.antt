@@ -1,6 +1,5 @@
 -- A variable's map is tested before what it announces.
 use Rattle.model_file.specs.Places.{variable_end, variable_reserved, variable_code, variable_values}
-use borrow.Author.Rules.{rules}
 use Rattle.model_file.proofs.parts.read_variable.Goals as goal
 
 pub returns-then-s-at : goal.returns-then-s-at

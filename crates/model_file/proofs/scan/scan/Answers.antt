@@ -2,7 +2,6 @@
 use mathlib.Core.Path.{ap, ◌∙◌}
 use Rattle.model_file.specs.Places.{settings_got}
 use Rattle.model_file.specs.Skips.{next_got, scan_unsettled, scan_refused, scan_rows}
-use borrow.Author.Rules.{rules}
 use Rattle.model_file.proofs.scan.scan.Goals as goal
 
 pub returns-in-Refused : goal.returns-in-Refused

@@ -2,7 +2,6 @@
 use mathlib.Core.Path.{ap, ◌∙◌}
 use Rattle.model_file.specs.Places.{number_got}
 use Rattle.model_file.specs.Skips.{tail_refused, tail_more, tail_done}
-use borrow.Author.Rules.{rules}
 use Rattle.model_file.proofs.scan.scan_rows.Goals as goal
 
 pub returns-then-a-s : goal.returns-then-a-s

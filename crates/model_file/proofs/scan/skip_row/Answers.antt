@@ -3,7 +3,6 @@ use native.Mathlib.Omega.{arith}
 use mathlib.Core.Path.{ap, ◌∙◌, subst}
 use Rattle.model_file.specs.Places.{head_got, HeadWithin}
 use Rattle.model_file.specs.Skips.{next_got, row_passed, row_headless, row_cut}
-use borrow.Author.Rules.{rules}
 use Rattle.model_file.proofs.scan.skip_row.Goals as goal
 
 pub overflow_add-result : goal.overflow_add-result

@@ -1,11 +1,8 @@
 -- The rows that are left give the whole; the terms so far stay within the limit.
-use Prim.Native.Nat.{◌≤◌}
-use mathlib.Core.Path.{◌≡◌, ap, ◌∙◌, subst}
-use lib.ListN.{drop}
+use mathlib.Core.Path.{ap, ◌∙◌, subst}
 use Rattle.model_file.specs.Format.{rows}
 use Rattle.model_file.specs.Places.{number_got}
-use Rattle.model_file.specs.Skips.{map_got, after, RowWithin, rows_turn, rows_bad, rows_end}
-use borrow.Author.Rules.{rules}
+use Rattle.model_file.specs.Skips.{RowWithin, rows_turn, rows_bad, rows_end}
 use Rattle.model_file.proofs.scan.skip_rows.Goals as goal
 
 pub returns-in-Refused : goal.returns-in-Refused

@@ -1,11 +1,9 @@
 -- The rows that are left give the whole; the terms so far stay within the limit.
 use Prim.Native.Nat.{◌≤◌}
-use mathlib.Core.Path.{◌≡◌, ap, ◌∙◌, subst}
+use mathlib.Core.Path.{◌≡◌, ap}
 use lib.ListN.{drop}
 use Rattle.model_file.specs.Format.{rows}
-use Rattle.model_file.specs.Places.{number_got}
-use Rattle.model_file.specs.Skips.{map_got, after, RowWithin, rows_turn, rows_bad, rows_end}
-use borrow.Author.Rules.{rules}
+use Rattle.model_file.specs.Skips.{map_got, after}
 use Rattle.model_file.proofs.scan.skip_rows.Given as goal
 
 abbrev pub invariant-loop-left : goal.invariant-loop-left

@@ -1,10 +1,8 @@
 -- The terms that are left give the whole.
-use mathlib.Core.Path.{◌≡◌, refl, ap, ◌∙◌}
-use lib.ListN.{drop}
-use Rattle.model_file.specs.Format.{many, term}
+use mathlib.Core.Path.{refl, ap, ◌∙◌}
+use Rattle.model_file.specs.Format.{term}
 use Rattle.model_file.specs.Places.{term_got}
-use Rattle.model_file.specs.Skips.{skipped, skip_turn, skip_bad, skip_end}
-use borrow.Author.Rules.{rules}
+use Rattle.model_file.specs.Skips.{skip_turn, skip_bad, skip_end}
 use Rattle.model_file.proofs.scan.skip_terms.Goals as goal
 
 pub loop-left-init : goal.loop-left-init

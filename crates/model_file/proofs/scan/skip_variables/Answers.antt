@@ -1,10 +1,8 @@
 -- The variables that are left give the whole.
-use mathlib.Core.Path.{◌≡◌, refl, ap, ◌∙◌}
-use lib.ListN.{drop}
-use Rattle.model_file.specs.Format.{many, variable}
+use mathlib.Core.Path.{refl, ap, ◌∙◌}
+use Rattle.model_file.specs.Format.{variable}
 use Rattle.model_file.specs.Places.{variable_got}
-use Rattle.model_file.specs.Skips.{skipped, skip_turn, skip_bad, skip_end}
-use borrow.Author.Rules.{rules}
+use Rattle.model_file.specs.Skips.{skip_turn, skip_bad, skip_end}
 use Rattle.model_file.proofs.scan.skip_variables.Goals as goal
 
 pub loop-left-init : goal.loop-left-init

@@ -1,12 +1,9 @@
 -- `judge_rows`: before row r the rows below it are judged.
 use borrow.Author.Rules.{rules}
-use Prim.Native.Nat.{◌-◌, ◌≤◌}
+use Prim.Native.Nat.{◌-◌}
 use native.Mathlib.Omega.{arith}
-use mathlib.Core.Path.{◌≡◌, refl}
-use lib.ListN.{length}
-use Rattle.space.specs.Store.{floats_of, numbers_of}
-use Rattle.view.specs.Known.{Written}
-use Rattle.emit.specs.Judging.{Judged, judged_start, judged_turn, judged_ready}
+use mathlib.Core.Path.{refl}
+use Rattle.emit.specs.Judging.{judged_start, judged_turn, judged_ready}
 use Rattle.output.specs.Judged.{judged-end}
 use Rattle.output.proofs.judge.judge_rows.Goals as goal
 

@@ -1,13 +1,10 @@
 -- `judge_rows`: before row r the rows below it are judged.
-use borrow.Author.Rules.{rules}
 use Prim.Native.Nat.{◌-◌, ◌≤◌}
-use native.Mathlib.Omega.{arith}
-use mathlib.Core.Path.{◌≡◌, refl}
+use mathlib.Core.Path.{◌≡◌}
 use lib.ListN.{length}
 use Rattle.space.specs.Store.{floats_of, numbers_of}
 use Rattle.view.specs.Known.{Written}
-use Rattle.emit.specs.Judging.{Judged, judged_start, judged_turn, judged_ready}
-use Rattle.output.specs.Judged.{judged-end}
+use Rattle.emit.specs.Judging.{Judged}
 use Rattle.output.proofs.judge.judge_rows.Given as goal
 
 abbrev pub invariant-loop-r : goal.invariant-loop-r

@@ -2,7 +2,6 @@
 use mathlib.Core.Path.{refl, sym, ◌∙◌}
 use Rattle.space.specs.Blocks.{fate_length, bound_length}
 use Rattle.emit.specs.Judging.{written_gives, judge_infinite, judge_finite}
-use borrow.Author.Rules.{rules}
 use Rattle.output.proofs.judge.judge_touched.Goals as goal
 
 pub returns-then-is_finite : goal.returns-then-is_finite

@@ -2,7 +2,6 @@
 use native.Mathlib.Omega.{arith}
 use mathlib.Core.Path.{◌∙◌}
 use Rattle.output.specs.Answered.{lowers, uppers, sides, spanned-judged, indexed-judged, writes-out}
-use borrow.Author.Rules.{rules}
 use Rattle.output.proofs.lists.write_results.Goals as goal
 
 pub write_lists-requires : goal.write_lists-requires

@@ -1,6 +1,5 @@
 -- `differs`, by what differs first.
 use Rattle.output.specs.Summary.{differs-bounds, differs-kept, differs-emitted}
-use borrow.Author.Rules.{rules}
 use Rattle.output.proofs.summary.differs.Goals as goal
 
 pub returns-then-bounds_changed : goal.returns-then-bounds_changed

@@ -1,6 +1,5 @@
 -- `read_counts`, one by one.
 use Rattle.output.specs.Summary.{five-counts}
-use borrow.Author.Rules.{rules}
 use Rattle.output.proofs.summary.read_counts.Goals as goal
 
 pub returns : goal.returns

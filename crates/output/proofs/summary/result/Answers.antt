@@ -1,6 +1,5 @@
 -- `result`: the counts and the flag beside the three numbers.
 use Rattle.output.specs.Summary.{result-is}
-use borrow.Author.Rules.{rules}
 use Rattle.output.proofs.summary.result.Goals as goal
 
 pub returns : goal.returns

@@ -1,6 +1,5 @@
 -- `write_tail`: its writers' lists.
 use Rattle.output.specs.Writing.{tail_of}
-use borrow.Author.Rules.{rules}
 use Rattle.output.proofs.tail.write_tail.Goals as goal
 
 pub returns : goal.returns

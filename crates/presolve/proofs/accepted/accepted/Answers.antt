@@ -34,12 +34,16 @@ enum_told-in-Next c = search rules
 -- src/accepted.rt:73:23
 pub finished-requires : goal.finished-requires
 finished-requires c = let a = accept c.requires refl refl refl refl
-    c.is_mip-mip.ensures refl in record { holds_f = (
+    c.is_mip-mip.ensures refl in record {
+      holds_f = (
         still_holds c.floats-1.given (holds_floats a),
         still_holds c.numbers-1.given (holds_numbers a),
-      ); room = has_room a; ready = ready_results a (reduces_is
-            c.reduce.ensures.reduces
-            c.in-Next.is) }
+      );
+      room = has_room a;
+      ready = ready_results a (reduces_is
+          c.reduce.ensures.reduces
+          c.in-Next.is);
+    }
 
 -- src/accepted.rt:14:1
 pub shape_of-floats-in-Stop : goal.shape_of-floats-in-Stop

@@ -2,7 +2,6 @@
 use native.Mathlib.Omega.{arith}
 use lib.ListN.{length-set}
 use Rattle.presolve_c.specs.Steps.{put_five}
-use borrow.Author.Rules.{rules}
 use Rattle.presolve_c.proofs.tell.put_counts.Goals as goal
 
 pub bounds-answer-1 : goal.bounds-answer-1

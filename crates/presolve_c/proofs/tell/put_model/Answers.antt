@@ -2,7 +2,6 @@
 use native.Mathlib.Omega.{arith}
 use lib.ListN.{length-set}
 use Rattle.presolve_c.specs.Steps.{put_nine}
-use borrow.Author.Rules.{rules}
 use Rattle.presolve_c.proofs.tell.put_model.Goals as goal
 
 pub put_counts-requires : goal.put_counts-requires

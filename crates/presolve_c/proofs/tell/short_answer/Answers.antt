@@ -1,6 +1,5 @@
 -- `short_answer`: the table's number, or else 10.
 use Rattle.presolve_c.specs.Steps.{earlier, else_ten}
-use borrow.Author.Rules.{rules}
 use Rattle.presolve_c.proofs.tell.short_answer.Goals as goal
 
 pub returns-in-Number : goal.returns-in-Number

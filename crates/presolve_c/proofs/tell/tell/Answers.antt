@@ -1,6 +1,5 @@
 -- `tell`, by the answer.
 use Rattle.presolve_c.specs.Steps.{told_refused, told_infeasible, told_model}
-use borrow.Author.Rules.{rules}
 use Rattle.presolve_c.proofs.tell.tell.Goals as goal
 
 pub put_counts-requires : goal.put_counts-requires

@@ -4,7 +4,6 @@ use mathlib.Core.Path.{ap, ◌∙◌}
 use mathlib.Core.List.{List}
 use Rattle.print_result.specs.Printing.{printed}
 use Rattle.presolve_file.specs.Fronts.{refused_text, infeasible_text_lem, presolved_text, presolved_fronts}
-use borrow.Author.Rules.{rules}
 use Rattle.presolve_file.proofs.print.print_call.Goals as goal
 
 pub print_reduced-requires : goal.print_reduced-requires

@@ -5,7 +5,6 @@ use mathlib.Core.List.{List}
 use lib.Seq.{length-take-le}
 use Rattle.print_result.specs.Printing.{printed}
 use Rattle.presolve_file.specs.Fronts.{fronts_text_lem}
-use borrow.Author.Rules.{rules}
 use Rattle.presolve_file.proofs.print.print_reduced.Goals as goal
 
 pub slice_bounds-print_answer-end : goal.slice_bounds-print_answer-end

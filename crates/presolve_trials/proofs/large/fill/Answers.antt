@@ -1,5 +1,4 @@
 -- The slice keeps its length, and what is left of it falls.
-use mathlib.Core.Path.{◌≡◌}
 use Prim.Native.Nat.{◌-◌}
 use native.Mathlib.Omega.{arith}
 use lib.ListN.{length, length-set}

@@ -1,9 +1,7 @@
 -- The place is never before `from`; the slice keeps its length, and what is left of it falls.
 use mathlib.Core.Path.{◌≡◌}
 use Prim.Native.Nat.{◌-◌, ◌≤◌}
-use native.Mathlib.Omega.{arith}
-use lib.ListN.{length, length-set}
-use borrow.Author.Rules.{rules}
+use lib.ListN.{length}
 use Rattle.presolve_trials.proofs.large.indices.Given as goal
 
 abbrev pub invariant-loop-i : goal.invariant-loop-i

@@ -1,9 +1,7 @@
 -- The slice keeps its length, and what is left of it falls.
-use mathlib.Core.Path.{◌≡◌}
 use Prim.Native.Nat.{◌-◌}
 use native.Mathlib.Omega.{arith}
 use lib.ListN.{length, length-set}
-use borrow.Author.Rules.{rules}
 use Rattle.presolve_trials.proofs.large.starts.Goals as goal
 
 pub loop-i-smaller : goal.loop-i-smaller

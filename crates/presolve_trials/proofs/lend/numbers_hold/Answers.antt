@@ -1,6 +1,5 @@
 -- What is left of the slice falls.
-use Prim.Native.Nat.{◌-◌, ◌≤◌}
-use lib.ListN.{length}
+use Prim.Native.Nat.{◌-◌}
 use borrow.Author.Rules.{rules}
 use Rattle.presolve_trials.proofs.lend.numbers_hold.Goals as goal
 

@@ -1,7 +1,6 @@
 -- What is left of the slice falls.
 use Prim.Native.Nat.{◌-◌, ◌≤◌}
 use lib.ListN.{length}
-use borrow.Author.Rules.{rules}
 use Rattle.presolve_trials.proofs.lend.numbers_hold.Given as goal
 
 abbrev pub invariant-loop-i : goal.invariant-loop-i

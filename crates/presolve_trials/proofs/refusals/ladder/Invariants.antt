@@ -1,6 +1,5 @@
 -- What is left to count falls.
 use Prim.Native.Nat.{◌-◌, ◌≤◌}
-use borrow.Author.Rules.{rules}
 use Rattle.presolve_trials.proofs.refusals.ladder.Given as goal
 
 abbrev pub invariant-loop-k : goal.invariant-loop-k

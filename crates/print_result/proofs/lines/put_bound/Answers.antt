@@ -1,7 +1,6 @@
 -- One field after the other.
 use Rattle.print_result.specs.Text.{ascii, bound_line}
 use Rattle.print_result.specs.Page.{◌⨟◌}
-use borrow.Author.Rules.{rules}
 use Rattle.print_result.proofs.lines.put_bound.Goals as goal
 
 pub returns : goal.returns

@@ -1,10 +1,9 @@
 -- The lines that are left give the whole; the count is within both lists.
-use mathlib.Core.Path.{◌≡◌, ap, ◌∙◌}
+use mathlib.Core.Path.{ap, ◌∙◌}
 use Prim.Native.Nat.{◌-◌, min}
-use lib.ListN.{length}
 use Rattle.print_result.specs.Text.{from_to, bound_at, bound_lines}
 use Rattle.print_result.specs.TextLaws.{first_line, no_line}
-use Rattle.print_result.specs.Page.{page, pour, Left, left_less, left_none, recast}
+use Rattle.print_result.specs.Page.{left_less, left_none, recast}
 use borrow.Author.Rules.{rules}
 use Rattle.print_result.proofs.lines.put_bounds.Goals as goal
 

@@ -1,11 +1,9 @@
 -- The lines that are left give the whole; the count is within the list.
-use mathlib.Core.Path.{◌≡◌, ap}
+use mathlib.Core.Path.{ap}
 use Prim.Native.Nat.{◌-◌}
-use lib.ListN.{length}
 use Rattle.print_result.specs.Text.{from_to, validate_at, validate_lines}
 use Rattle.print_result.specs.TextLaws.{first_line, no_line}
-use Rattle.print_result.specs.Page.{page, pour, Left, left_less, left_none, recast}
-use borrow.Author.Rules.{rules}
+use Rattle.print_result.specs.Page.{left_less, left_none, recast}
 use Rattle.print_result.proofs.lines.put_kept.Goals as goal
 
 pub loop-i-preserved : goal.loop-i-preserved

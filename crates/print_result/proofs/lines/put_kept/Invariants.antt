@@ -2,10 +2,8 @@
 use mathlib.Core.Path.{◌≡◌, ap}
 use Prim.Native.Nat.{◌-◌}
 use lib.ListN.{length}
-use Rattle.print_result.specs.Text.{from_to, validate_at, validate_lines}
-use Rattle.print_result.specs.TextLaws.{first_line, no_line}
-use Rattle.print_result.specs.Page.{page, pour, Left, left_less, left_none, recast}
-use borrow.Author.Rules.{rules}
+use Rattle.print_result.specs.Text.{from_to, validate_at}
+use Rattle.print_result.specs.Page.{page, pour, Left}
 use Rattle.print_result.proofs.lines.put_kept.Given as goal
 
 abbrev pub invariant-loop-i : goal.invariant-loop-i

@@ -2,7 +2,6 @@
 use Rattle.print_result.specs.Text.{ascii, whole_line}
 use Rattle.print_result.specs.TextLaws.{numbers_whole, numbers_off}
 use Rattle.print_result.specs.Page.{recast}
-use borrow.Author.Rules.{rules}
 use Rattle.print_result.proofs.lines.put_numbers.Goals as goal
 
 pub returns-then-k-eq0 : goal.returns-then-k-eq0

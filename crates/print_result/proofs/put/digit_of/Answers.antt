@@ -1,7 +1,6 @@
 -- The table is the definition's.
 use mathlib.Core.Path.{refl}
 use Rattle.print_result.specs.Text.{ascii, digit}
-use borrow.Author.Rules.{rules}
 use Rattle.print_result.proofs.put.digit_of.Goals as goal
 
 pub returns : goal.returns

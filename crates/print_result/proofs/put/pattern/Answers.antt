@@ -4,7 +4,6 @@ use mathlib.Core.Bool.{Bool, not}
 use lib.Dec.{T}
 use Rattle.floats.proofs.Facts.{ne_self}
 use Rattle.print_result.specs.TextLaws.{nan_bits}
-use borrow.Author.Rules.{rules}
 use Rattle.print_result.proofs.put.pattern.Goals as goal
 
 pub returns-then-x : goal.returns-then-x

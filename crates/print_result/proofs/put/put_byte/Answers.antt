@@ -1,6 +1,5 @@
 -- Within the buffer, past its end, or at the cap.
 use Rattle.print_result.specs.Page.{byte_in, byte_past, byte_full}
-use borrow.Author.Rules.{rules}
 use Rattle.print_result.proofs.put.put_byte.Goals as goal
 
 pub returns-then-at-out : goal.returns-then-at-out

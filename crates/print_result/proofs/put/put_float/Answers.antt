@@ -4,7 +4,6 @@ use Prim.Native.Nat.{ℕ}
 use mathlib.Core.List.{◌∷◌}
 use Rattle.print_result.specs.Text.{hex_digits, bits}
 use Rattle.print_result.specs.Page.{recast, ◌⨟◌}
-use borrow.Author.Rules.{rules}
 use Rattle.print_result.proofs.put.put_float.Goals as goal
 
 pub returns : goal.returns

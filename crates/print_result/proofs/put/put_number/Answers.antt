@@ -1,7 +1,6 @@
 -- A space, then the digits.
 use Rattle.print_result.specs.Text.{number}
 use Rattle.print_result.specs.Page.{◌⨟◌}
-use borrow.Author.Rules.{rules}
 use Rattle.print_result.proofs.put.put_number.Goals as goal
 
 pub returns : goal.returns

@@ -1,9 +1,7 @@
 -- The bytes that are left give the whole.
-use mathlib.Core.Path.{◌≡◌}
 use Prim.Native.Nat.{◌-◌}
 use lib.ListN.{length, drop, drop_of_length-le}
-use Rattle.print_result.specs.Page.{page, pour, Left, left_less, left_none, drop_one}
-use borrow.Author.Rules.{rules}
+use Rattle.print_result.specs.Page.{left_less, left_none, drop_one}
 use Rattle.print_result.proofs.put.put_text.Goals as goal
 
 pub loop-i-preserved : goal.loop-i-preserved

@@ -1,9 +1,8 @@
 -- The bytes that are left give the whole.
 use mathlib.Core.Path.{◌≡◌}
 use Prim.Native.Nat.{◌-◌}
-use lib.ListN.{length, drop, drop_of_length-le}
-use Rattle.print_result.specs.Page.{page, pour, Left, left_less, left_none, drop_one}
-use borrow.Author.Rules.{rules}
+use lib.ListN.{length, drop}
+use Rattle.print_result.specs.Page.{page, pour, Left}
 use Rattle.print_result.proofs.put.put_text.Given as goal
 
 abbrev pub invariant-loop-i : goal.invariant-loop-i

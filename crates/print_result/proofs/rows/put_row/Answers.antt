@@ -1,7 +1,6 @@
 -- A rewritten row has its terms; any other is one line.
 use Rattle.print_result.specs.TextLaws.{parts_lines, row_rewritten, row_written}
 use Rattle.print_result.specs.Page.{recast, ◌⨟◌}
-use borrow.Author.Rules.{rules}
 use Rattle.print_result.proofs.rows.put_row.Goals as goal
 
 pub returns-then-mark-ne0 : goal.returns-then-mark-ne0

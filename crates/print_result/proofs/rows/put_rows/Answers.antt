@@ -1,10 +1,9 @@
 -- The rows that are left give the whole; the count is within every list.
-use mathlib.Core.Path.{◌≡◌, ap}
+use mathlib.Core.Path.{ap}
 use Prim.Native.Nat.{◌-◌}
-use lib.ListN.{length}
 use Rattle.print_result.specs.Text.{from_to, row_at, row_texts}
 use Rattle.print_result.specs.TextLaws.{first_line, no_line, entries}
-use Rattle.print_result.specs.Page.{page, pour, Left, left_less, left_none, recast}
+use Rattle.print_result.specs.Page.{left_less, left_none, recast}
 use borrow.Author.Rules.{rules}
 use Rattle.print_result.proofs.rows.put_rows.Goals as goal
 

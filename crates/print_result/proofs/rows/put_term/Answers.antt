@@ -1,7 +1,6 @@
 -- One field after the other.
 use Rattle.print_result.specs.Text.{ascii, term_line}
 use Rattle.print_result.specs.Page.{◌⨟◌}
-use borrow.Author.Rules.{rules}
 use Rattle.print_result.proofs.rows.put_term.Goals as goal
 
 pub returns : goal.returns

@@ -1,12 +1,9 @@
 -- The lines that are left give the whole; the end is within both parts.
 use mathlib.Core.Path.{◌≡◌, ap}
 use Prim.Native.Nat.{◌-◌}
-use native.Mathlib.Omega.{arith}
 use lib.ListN.{length}
-use Rattle.print_result.specs.Text.{from_to, term_at, term_lines}
-use Rattle.print_result.specs.TextLaws.{first_line, no_line}
-use Rattle.print_result.specs.Page.{page, pour, Left, left_less, left_none, recast}
-use borrow.Author.Rules.{rules}
+use Rattle.print_result.specs.Text.{from_to, term_at}
+use Rattle.print_result.specs.Page.{page, pour, Left}
 use Rattle.print_result.proofs.rows.put_terms.Given as goal
 
 abbrev pub invariant-loop-i : goal.invariant-loop-i

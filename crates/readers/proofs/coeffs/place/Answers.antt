@@ -1,6 +1,5 @@
 -- `place`: live terms, then folded ones.
 use Rattle.readers.specs.Coeffs.{place_live, place_folded}
-use borrow.Author.Rules.{rules}
 use Rattle.readers.proofs.coeffs.place.Goals as goal
 
 pub returns-then-k-n : goal.returns-then-k-n

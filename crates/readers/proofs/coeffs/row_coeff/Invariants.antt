@@ -1,10 +1,8 @@
 -- `row_coeff`: the walk goes on while the rest of the row has the variable.
 use Prim.Native.Nat.{◌+◌, ◌-◌}
-use native.Mathlib.Omega.{arith}
 use lib.ListN.{get_or}
 use Rattle.space.specs.Store.{floats_of, numbers_of}
-use Rattle.readers.specs.Coeffs.{Seeking, term_long, seek_start, seek_in, seek_row, seek_fits, seek_place, seek_turn, seek_end}
-use borrow.Author.Rules.{rules}
+use Rattle.readers.specs.Coeffs.{Seeking}
 use Rattle.readers.proofs.coeffs.row_coeff.Given as goal
 
 abbrev pub invariant-loop-s : goal.invariant-loop-s

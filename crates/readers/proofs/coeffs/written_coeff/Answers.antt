@@ -1,8 +1,7 @@
 -- `written_coeff`: the walk goes on while the rest of the row has the variable.
 use Prim.Native.Nat.{◌-◌}
 use native.Mathlib.Omega.{arith}
-use lib.ListN.{length}
-use Rattle.readers.specs.WrittenCoeffs.{SeekingWritten, written_start, written_in, written_turn, written_end}
+use Rattle.readers.specs.WrittenCoeffs.{written_start, written_in, written_turn, written_end}
 use Rattle.readers.proofs.coeffs.written_coeff.Goals as goal
 
 pub loop-t-init : goal.loop-t-init

@@ -1,8 +1,7 @@
 -- `fixed_sum`: what is left of the definition from the term looked at on gives the whole.
 use Prim.Native.Nat.{◌-◌}
 use native.Mathlib.Omega.{arith}
-use Rattle.space.specs.Store.{floats_of}
-use Rattle.readers.specs.Empty.{Summing, sum_start, sum_turn, sum_end}
+use Rattle.readers.specs.Empty.{sum_start, sum_turn, sum_end}
 use borrow.Author.Rules.{rules}
 use Rattle.readers.proofs.empty.fixed_sum.Goals as goal
 

@@ -1,9 +1,7 @@
 -- `fixed_sum`: what is left of the definition from the term looked at on gives the whole.
 use Prim.Native.Nat.{◌-◌}
-use native.Mathlib.Omega.{arith}
 use Rattle.space.specs.Store.{floats_of}
-use Rattle.readers.specs.Empty.{Summing, sum_start, sum_turn, sum_end}
-use borrow.Author.Rules.{rules}
+use Rattle.readers.specs.Empty.{Summing}
 use Rattle.readers.proofs.empty.fixed_sum.Given as goal
 
 abbrev pub invariant-loop-i : goal.invariant-loop-i

@@ -1,6 +1,5 @@
 -- `activity_term`, by the box.
 use Rattle.readers.specs.Activity.{in_working, in_emitted}
-use borrow.Author.Rules.{rules}
 use Rattle.readers.proofs.rows.activity_term.Goals as goal
 
 pub returns-then-working : goal.returns-then-working

@@ -1,6 +1,5 @@
 -- `limits` reads the row's four floats.
 use Rattle.readers.specs.Limits.{limits_read}
-use borrow.Author.Rules.{rules}
 use Rattle.readers.proofs.rows.limits.Goals as goal
 
 pub returns : goal.returns

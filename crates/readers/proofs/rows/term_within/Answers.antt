@@ -1,7 +1,6 @@
 -- `term_within` is the definition's step, by the size of the bounds.
 use Rattle.readers.specs.Vars.{usual_lower, usual_upper}
 use Rattle.readers.specs.Activity.{within_step}
-use borrow.Author.Rules.{rules}
 use Rattle.readers.proofs.rows.term_within.Goals as goal
 
 pub returns-then-usual_bounds : goal.returns-then-usual_bounds

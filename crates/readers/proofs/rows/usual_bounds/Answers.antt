@@ -1,6 +1,5 @@
 -- `usual_bounds`, by the lower bound.
 use Rattle.readers.specs.Vars.{usual_both, usual_not}
-use borrow.Author.Rules.{rules}
 use Rattle.readers.proofs.rows.usual_bounds.Goals as goal
 
 pub returns-then-usual : goal.returns-then-usual

@@ -2,9 +2,8 @@
 use Prim.Native.Nat.{◌-◌}
 use native.Mathlib.Omega.{arith}
 use mathlib.Core.Bool.{true}
-use Rattle.space.specs.Store.{floats_of, numbers_of}
 use Rattle.readers.specs.RowAt.{row_ready}
-use Rattle.readers.specs.Activity.{Walking, walk_start, walk_place, walk_small, walk_var, walk_turn, walk_end}
+use Rattle.readers.specs.Activity.{walk_start, walk_place, walk_small, walk_var, walk_turn, walk_end}
 use borrow.Author.Rules.{rules}
 use Rattle.readers.proofs.rows.working_activity.Goals as goal
 

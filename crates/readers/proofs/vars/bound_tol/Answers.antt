@@ -1,6 +1,5 @@
 -- `bound_tol`, by which bound is asked for.
 use Rattle.readers.specs.Vars.{tol_upper, tol_lower}
-use borrow.Author.Rules.{rules}
 use Rattle.readers.proofs.vars.bound_tol.Goals as goal
 
 pub returns-then-upper : goal.returns-then-upper

@@ -1,6 +1,5 @@
 -- `fixed_value`, by whether the variable is fixed.
 use Rattle.readers.specs.Vars.{value_fixed, value_free}
-use borrow.Author.Rules.{rules}
 use Rattle.readers.proofs.vars.fixed_value.Goals as goal
 
 pub returns-then-fixed_at : goal.returns-then-fixed_at

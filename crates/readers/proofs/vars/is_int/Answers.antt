@@ -1,6 +1,5 @@
 -- `is_int`, by the mode.
 use Rattle.readers.specs.Vars.{int_mip, int_lp}
-use borrow.Author.Rules.{rules}
 use Rattle.readers.proofs.vars.is_int.Goals as goal
 
 pub returns-then-s : goal.returns-then-s

@@ -1,6 +1,5 @@
 -- `is_int_domain` asks the domain that the list has.
 use Rattle.readers.specs.Vars.{domain_is}
-use borrow.Author.Rules.{rules}
 use Rattle.readers.proofs.vars.is_int_domain.Goals as goal
 
 pub returns : goal.returns

@@ -1,10 +1,9 @@
 -- `code_wrong` finds the first place where its test holds. The invariant: it holds nowhere before.
 use Prim.Native.Nat.{◌-◌}
 use lib.Dec.{ltb}
-use lib.ListN.{length, get_or}
 use borrow.Author.Tests.{lt-ltb, le-ltb}
 use borrow.Author.Rules.{rules}
-use Rattle.refuse.specs.Laws.{Passed, start, turn, found, end}
+use Rattle.refuse.specs.Laws.{start, turn, found, end}
 use Rattle.refuse.proofs.lists.code_wrong.Goals as goal
 
 pub loop-k-init : goal.loop-k-init

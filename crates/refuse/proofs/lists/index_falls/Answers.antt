@@ -1,10 +1,7 @@
 -- `index_falls` finds the first place where its test holds. The invariant: it holds nowhere before.
-use Prim.Native.Nat.{suc, ◌+◌, ◌-◌}
+use Prim.Native.Nat.{◌+◌, ◌-◌}
 use native.Mathlib.Omega.{arith}
-use lib.Dec.{leb}
-use lib.ListN.{get_or}
-use borrow.Author.Rules.{rules}
-use Rattle.refuse.specs.Laws.{Passed, start, turn, found, end, falls, rises}
+use Rattle.refuse.specs.Laws.{start, turn, found, end, falls, rises}
 use Rattle.refuse.proofs.lists.index_falls.Goals as goal
 
 pub loop-k-init : goal.loop-k-init

@@ -1,10 +1,9 @@
 -- `index_large` finds the first place where its test holds. The invariant: it holds nowhere before.
 use Prim.Native.Nat.{◌-◌}
 use lib.Dec.{leb}
-use lib.ListN.{length, get_or}
 use borrow.Author.Tests.{le-leb, lt-leb}
 use borrow.Author.Rules.{rules}
-use Rattle.refuse.specs.Laws.{Passed, start, turn, found, end}
+use Rattle.refuse.specs.Laws.{start, turn, found, end}
 use Rattle.refuse.proofs.lists.index_large.Goals as goal
 
 pub loop-k-init : goal.loop-k-init

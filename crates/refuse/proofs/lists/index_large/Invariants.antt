@@ -2,9 +2,7 @@
 use Prim.Native.Nat.{◌-◌}
 use lib.Dec.{leb}
 use lib.ListN.{length, get_or}
-use borrow.Author.Tests.{le-leb, lt-leb}
-use borrow.Author.Rules.{rules}
-use Rattle.refuse.specs.Laws.{Passed, start, turn, found, end}
+use Rattle.refuse.specs.Laws.{Passed}
 use Rattle.refuse.proofs.lists.index_large.Given as goal
 
 abbrev pub invariant-loop-k : goal.invariant-loop-k

@@ -3,11 +3,9 @@ use Prim.Native.Nat.{◌-◌}
 use native.Mathlib.Omega.{arith}
 use mathlib.Core.Path.{sym, ap, ◌∙◌}
 use mathlib.Core.Bool.{not}
-use lib.ListN.{length}
 use borrow.Author.Rules.{rules}
 use Rattle.floats.specs.Num.{is_finite}
-use Rattle.tolerances.specs.Tol.{at}
-use Rattle.refuse.specs.Laws.{Passed, start, turn, found, end}
+use Rattle.refuse.specs.Laws.{start, turn, found, end}
 use Rattle.refuse.proofs.lists.not_finite.Goals as goal
 
 pub loop-k-init : goal.loop-k-init

@@ -2,12 +2,10 @@
 use Prim.Native.Nat.{◌-◌}
 use native.Mathlib.Omega.{arith}
 use mathlib.Core.Path.{sym, ◌∙◌}
-use lib.ListN.{length}
 use borrow.Author.Rules.{rules}
 use Rattle.definition.specs.Model.{from, upto, nnz}
 use Rattle.definition.specs.Refusal.{index_falls, row_unordered}
-use Rattle.refuse.specs.Of.{spans_of}
-use Rattle.refuse.specs.Laws.{Passed, start, turn, found, end}
+use Rattle.refuse.specs.Laws.{start, turn, found, end}
 use Rattle.refuse.specs.Rows.{span}
 use Rattle.refuse.proofs.lists.row_unordered.Goals as goal
 

@@ -2,9 +2,7 @@
 use Prim.Native.Nat.{◌+◌, ◌-◌}
 use lib.Dec.{ltb}
 use lib.ListN.{get_or}
-use borrow.Author.Tests.{lt-ltb, le-ltb}
-use borrow.Author.Rules.{rules}
-use Rattle.refuse.specs.Laws.{Passed, start, turn, found, end}
+use Rattle.refuse.specs.Laws.{Passed, start}
 use Rattle.refuse.proofs.lists.start_falls.Given as goal
 
 abbrev pub invariant-loop-r : goal.invariant-loop-r

@@ -1,5 +1,4 @@
 -- `bound_wrong` computes its definition.
-use borrow.Author.Rules.{rules}
 use Rattle.refuse.specs.Rows.{bound_is}
 use Rattle.refuse.proofs.rows.bound_wrong.Goals as goal
 

@@ -2,11 +2,9 @@
 use Prim.Native.Nat.{◌-◌}
 use native.Mathlib.Omega.{arith}
 use mathlib.Core.Path.{sym, ◌∙◌}
-use lib.ListN.{length}
 use borrow.Author.Rules.{rules}
 use Rattle.definition.specs.Refusal.{bound_wrong, bounds_wrong}
-use Rattle.refuse.specs.Of.{bounds_of}
-use Rattle.refuse.specs.Laws.{Passed, start, turn, found, end}
+use Rattle.refuse.specs.Laws.{start, turn, found, end}
 use Rattle.refuse.proofs.rows.bounds_wrong.Goals as goal
 
 pub loop-v-init : goal.loop-v-init

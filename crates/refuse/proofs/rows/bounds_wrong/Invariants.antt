@@ -1,12 +1,9 @@
 -- `bounds_wrong` finds the first place where its test holds. The invariant: it holds nowhere before.
 use Prim.Native.Nat.{◌-◌}
-use native.Mathlib.Omega.{arith}
-use mathlib.Core.Path.{sym, ◌∙◌}
 use lib.ListN.{length}
-use borrow.Author.Rules.{rules}
-use Rattle.definition.specs.Refusal.{bound_wrong, bounds_wrong}
+use Rattle.definition.specs.Refusal.{bound_wrong}
 use Rattle.refuse.specs.Of.{bounds_of}
-use Rattle.refuse.specs.Laws.{Passed, start, turn, found, end}
+use Rattle.refuse.specs.Laws.{Passed}
 use Rattle.refuse.proofs.rows.bounds_wrong.Given as goal
 
 abbrev pub invariant-loop-v : goal.invariant-loop-v

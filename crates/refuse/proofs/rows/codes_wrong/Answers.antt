@@ -1,5 +1,4 @@
 -- `codes_wrong` computes its definition.
-use borrow.Author.Rules.{rules}
 use Rattle.refuse.specs.Rows.{codes_are}
 use Rattle.refuse.proofs.rows.codes_wrong.Goals as goal
 

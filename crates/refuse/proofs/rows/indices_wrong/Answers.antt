@@ -1,5 +1,4 @@
 -- `indices_wrong` computes its definition.
-use borrow.Author.Rules.{rules}
 use Rattle.refuse.specs.Rows.{indices_are}
 use Rattle.refuse.proofs.rows.indices_wrong.Goals as goal
 

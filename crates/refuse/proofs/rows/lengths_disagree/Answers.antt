@@ -1,6 +1,5 @@
 -- `lengths_disagree` computes its definition.
 use native.Mathlib.Numerals.{add-one}
-use borrow.Author.Rules.{rules}
 use Rattle.definition.specs.Refusal.{lengths_disagree}
 use Rattle.refuse.proofs.rows.lengths_disagree.Goals as goal
 

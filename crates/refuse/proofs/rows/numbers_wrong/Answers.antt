@@ -1,5 +1,4 @@
 -- `numbers_wrong` computes its definition.
-use borrow.Author.Rules.{rules}
 use Rattle.refuse.specs.Rows.{numbers_are}
 use Rattle.refuse.proofs.rows.numbers_wrong.Goals as goal
 

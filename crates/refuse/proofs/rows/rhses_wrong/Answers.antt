@@ -3,12 +3,10 @@ use Prim.Native.Nat.{◌-◌}
 use native.Mathlib.Omega.{arith}
 use mathlib.Core.Path.{sym, ap, ◌∙◌}
 use mathlib.Core.Bool.{not}
-use lib.ListN.{length}
 use borrow.Author.Rules.{rules}
 use Rattle.definition.specs.Model.{op_of, rhs_of}
 use Rattle.definition.specs.Refusal.{rhs_wrong, rhses_wrong}
-use Rattle.refuse.specs.Of.{rhses_of}
-use Rattle.refuse.specs.Laws.{Passed, start, turn, found, end}
+use Rattle.refuse.specs.Laws.{start, turn, found, end}
 use Rattle.refuse.proofs.rows.rhses_wrong.Goals as goal
 
 pub loop-r-init : goal.loop-r-init

@@ -1,14 +1,9 @@
 -- `rhses_wrong` finds the first place where its test holds. The invariant: it holds nowhere before.
 use Prim.Native.Nat.{◌-◌}
-use native.Mathlib.Omega.{arith}
-use mathlib.Core.Path.{sym, ap, ◌∙◌}
-use mathlib.Core.Bool.{not}
 use lib.ListN.{length}
-use borrow.Author.Rules.{rules}
-use Rattle.definition.specs.Model.{op_of, rhs_of}
-use Rattle.definition.specs.Refusal.{rhs_wrong, rhses_wrong}
+use Rattle.definition.specs.Refusal.{rhs_wrong}
 use Rattle.refuse.specs.Of.{rhses_of}
-use Rattle.refuse.specs.Laws.{Passed, start, turn, found, end}
+use Rattle.refuse.specs.Laws.{Passed}
 use Rattle.refuse.proofs.rows.rhses_wrong.Given as goal
 
 abbrev pub invariant-loop-r : goal.invariant-loop-r

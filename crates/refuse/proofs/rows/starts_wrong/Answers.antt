@@ -1,5 +1,4 @@
 -- `starts_wrong` computes its definition.
-use borrow.Author.Rules.{rules}
 use Rattle.definition.specs.Model.{from, upto}
 use Rattle.definition.specs.Refusal.{start_falls, starts_wrong}
 use Rattle.refuse.proofs.rows.starts_wrong.Goals as goal

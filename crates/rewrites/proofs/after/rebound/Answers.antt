@@ -1,6 +1,5 @@
 -- `rebound`: by the form.
 use Rattle.rewrites.specs.After.{rebound_le, rebound_ge, rebound_none}
-use borrow.Author.Rules.{rules}
 use Rattle.rewrites.proofs.after.rebound.Goals as goal
 
 pub returns-in-Le : goal.returns-in-Le

@@ -10,9 +10,12 @@ pub set_coeff-requires : goal.set_coeff-requires
 set_coeff-requires c = record { r_in_bounds = set_place c.requires.holds_f.2 c.requires.ready; holds_f = search rules }
 
 pub rewrite_binding-grown-requires : goal.rewrite_binding-grown-requires
-rewrite_binding-grown-requires c = record { r_lt_rows = search (set_live, coeffs_length, rules); ready = ready_stays c.requires.holds_f.2.row (set_acts c.requires.holds_f.2 c.args.na (coeffs_length _ _ c.requires.holds_f.0)
+rewrite_binding-grown-requires c = record {
+  r_lt_rows = search (set_live, coeffs_length, rules);
+  ready = ready_stays c.requires.holds_f.2.row (set_acts c.requires.holds_f.2 c.args.na (coeffs_length _ _ c.requires.holds_f.0)
       c.set_coeff.ensures) (set_stays c.requires.holds_f.2 c.args.na c.requires.holds_f.3)
-      c.requires.ready }
+      c.requires.ready;
+}
 
 pub returns : goal.returns
 returns c = ge_acts c.args.a c.args.na _ c.args.bp c.requires.holds_f.2 c.requires.holds_f.3 c.requires.ready (coeffs_length _ _ c.requires.holds_f.0)

@@ -2,7 +2,6 @@
 use mathlib.Core.Path.{refl}
 use Rattle.space.specs.Blocks.{written_length, kept_length, binary_length, binaries_length}
 use Rattle.rewrites.specs.Adding.{add_first, add_more}
-use borrow.Author.Rules.{rules}
 use Rattle.rewrites.proofs.bindings.add_binary.Goals as goal
 
 pub returns-then-k-eq0 : goal.returns-then-k-eq0

@@ -1,7 +1,6 @@
 -- `kept_after`: the room at the binding's magnitudes, or what is kept already.
 use Rattle.folds.specs.Stands.{standing}
 use Rattle.rewrites.specs.Settling.{kept_reads}
-use borrow.Author.Rules.{rules}
 use Rattle.rewrites.proofs.bindings.kept_after.Goals as goal
 
 pub fixed_besides-fixed-requires : goal.fixed_besides-fixed-requires

@@ -2,7 +2,6 @@
 use mathlib.Core.Path.{ap, ◌∙◌}
 use lib.Ieee.{Float}
 use Rattle.floats.specs.Num.{◌⊕◌, abs}
-use borrow.Author.Rules.{rules}
 use Rattle.rewrites.proofs.bindings.rhs_mag.Goals as goal
 
 pub returns : goal.returns

@@ -1,7 +1,6 @@
 -- `store_binding`: both numbers are read, and then stored.
 use Rattle.space.specs.Blocks.{rewritten_length, kept_length}
 use Rattle.rewrites.specs.Settling.{store_acts, store_growth}
-use borrow.Author.Rules.{rules}
 use Rattle.rewrites.proofs.bindings.store_binding.Goals as goal
 
 pub returns : goal.returns

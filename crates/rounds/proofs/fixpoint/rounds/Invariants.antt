@@ -1,15 +1,10 @@
 -- `rounds`: what is left of the definition after n rounds gives the whole.
 use Prim.Native.Nat.{◌-◌}
-use native.Mathlib.Omega.{arith}
 use mathlib.Core.Path.{◌≡◌}
 use lib.ListN.{length}
 use Rattle.space.specs.Store.{floats_of, numbers_of}
-use Rattle.view.specs.Steps.{ready_under}
-use Rattle.wave.specs.Begin.{waves_is}
-use Rattle.rounds.specs.After.{Running, running_known}
-use Rattle.rounds.specs.Rounding.{Rounding, waves_under, rounding_start, rounding_ready, rounding_waved}
-use Rattle.rounds.specs.Rounding.{rounding_end, rounding_stop, rounding_turn, rounding_done}
-use borrow.Author.Rules.{rules}
+use Rattle.rounds.specs.After.{Running}
+use Rattle.rounds.specs.Rounding.{Rounding}
 use Rattle.rounds.proofs.fixpoint.rounds.Given as goal
 
 abbrev pub invariant-loop-n : goal.invariant-loop-n

@@ -1,7 +1,6 @@
 -- `row_coeffs`: the row's part of whichever list holds it.
 use Rattle.row_terms.specs.RowMark.{is_rewritten_lem, is_written}
 use Rattle.row_terms.specs.Parts.{part_yes, part_no}
-use borrow.Author.Rules.{rules}
 use Rattle.row_terms.proofs.parts.row_coeffs.Goals as goal
 
 pub returns-then-mark-ne0 : goal.returns-then-mark-ne0

@@ -1,6 +1,5 @@
 -- `row_place`: the lists by the mark, the start and the count by the two parts.
 use Rattle.row_terms.specs.Place.{place_rewritten, place_written}
-use borrow.Author.Rules.{rules}
 use Rattle.row_terms.proofs.places.row_place.Goals as goal
 
 pub returns-then-mark-ne0 : goal.returns-then-mark-ne0

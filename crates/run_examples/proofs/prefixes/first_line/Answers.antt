@@ -1,9 +1,8 @@
 -- The place is never past the end.
 use mathlib.Core.Path.{sym}
-use Prim.Native.Nat.{◌-◌, ◌≤◌}
+use Prim.Native.Nat.{◌-◌}
 use lib.ListN.{length}
 use lib.Seq.{length-take-le}
-use borrow.Author.Rules.{rules}
 use Rattle.run_examples.proofs.prefixes.first_line.Goals as goal
 
 pub returns-after-loop-i : goal.returns-after-loop-i

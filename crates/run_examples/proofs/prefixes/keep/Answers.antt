@@ -5,7 +5,6 @@ use native.Mathlib.Omega.{arith}
 use mathlib.Core.List.{List}
 use lib.ListN.{length, set, get_or, length-set}
 use lib.Seq.{length-take-le}
-use borrow.Author.Rules.{rules}
 use Rattle.run_examples.proofs.prefixes.keep.Goals as goal
 
 -- a byte more is there after it is stored

@@ -1,11 +1,8 @@
 -- The last line stays a part of its buffer.
-use mathlib.Core.Path.{◌≡◌, sym}
+use mathlib.Core.Path.{◌≡◌}
 use Prim.Native.Nat.{◌-◌}
-use native.Mathlib.Omega.{arith}
 use lib.ListN.{length}
-use lib.Seq.{length-take-le}
 use Rattle.io.specs.Counts.{IsPrefixLen}
-use borrow.Author.Rules.{rules}
 use Rattle.run_examples.proofs.prefixes.print_prefixes.Given as goal
 
 abbrev pub invariant-loop-n : goal.invariant-loop-n

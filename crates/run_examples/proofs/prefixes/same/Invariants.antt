@@ -1,7 +1,6 @@
 -- Both are as long, so a place of one is a place of the other.
 use Prim.Native.Nat.{◌-◌}
 use lib.ListN.{length}
-use borrow.Author.Rules.{rules}
 use Rattle.run_examples.proofs.prefixes.same.Given as goal
 
 abbrev pub invariant-loop-i : goal.invariant-loop-i

@@ -1,6 +1,5 @@
 -- `by_count` is by_count.
 use Rattle.several.specs.ByCount.{by_none, by_one, by_more}
-use borrow.Author.Rules.{rules}
 use Rattle.several.proofs.one_row.by_count.Goals as goal
 
 pub returns-then-n-eq0 : goal.returns-then-n-eq0

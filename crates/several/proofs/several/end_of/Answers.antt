@@ -1,7 +1,6 @@
 -- `end_of` is endOf, where the working activity lets the row be forcing or redundant; else the row stays open.
 use Rattle.several.specs.Several.{end_skips, end_min, end_max, end_drop, end_open}
 use Rattle.std.proofs.Common.{ap, not}
-use borrow.Author.Rules.{rules}
 use Rattle.several.proofs.several.end_of.Goals as goal
 
 pub returns-then-not-reduces : goal.returns-then-not-reduces

@@ -1,6 +1,5 @@
 -- `force_row`: each variable at its corner, and the row dropped.
 use Rattle.several.specs.Several.{force_acts}
-use borrow.Author.Rules.{rules}
 use Rattle.several.proofs.several.force_row.Goals as goal
 
 pub returns : goal.returns

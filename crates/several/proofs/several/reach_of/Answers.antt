@@ -1,6 +1,5 @@
 -- `reach_of` is unreachable and may_reduce.
 use Rattle.several.specs.Several.{reach_never, reach_reduces}
-use borrow.Author.Rules.{rules}
 use Rattle.several.proofs.several.reach_of.Goals as goal
 
 pub returns : goal.returns

@@ -2,7 +2,6 @@
 use Rattle.view.specs.Steps.{ready_under}
 use Rattle.rows.specs.Knowing.{moves_spans, moves_looks, moves_marks, span_at}
 use Rattle.several.specs.Several.{several_stop, several_min, several_max, several_drop, several_implied}
-use borrow.Author.Rules.{rules}
 use Rattle.several.proofs.several.several_terms.Goals as goal
 
 pub written_terms-n-requires : goal.written_terms-n-requires

@@ -1,6 +1,5 @@
 -- `empty_row_check` is empty_row_check.
 use Rattle.singles.specs.Empty.{empty_stop, empty_drop}
-use borrow.Author.Rules.{rules}
 use Rattle.singles.proofs.empty.empty_row_check.Goals as goal
 
 pub returns-then-empty_row_violated : goal.returns-then-empty_row_violated

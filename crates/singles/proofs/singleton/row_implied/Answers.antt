@@ -1,6 +1,5 @@
 -- `row_implied` is the test of singleton_drop.
 use Rattle.singles.specs.Singleton.{implied_not, implied_by}
-use borrow.Author.Rules.{rules}
 use Rattle.singles.proofs.singleton.row_implied.Goals as goal
 
 pub returns-then-lower_meets : goal.returns-then-lower_meets

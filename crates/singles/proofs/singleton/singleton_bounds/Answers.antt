@@ -2,7 +2,6 @@
 use Rattle.readers.specs.Reading.{domain_in}
 use Rattle.rows.specs.Knowing.{moves_spans, moves_domains, span_at}
 use Rattle.singles.specs.Singleton.{bounds_int, bounds_stop, bounds_leave}
-use borrow.Author.Rules.{rules}
 use Rattle.singles.proofs.singleton.singleton_bounds.Goals as goal
 
 pub is_int-requires : goal.is_int-requires

@@ -1,6 +1,5 @@
 -- `singleton_drop` is singleton_drop.
 use Rattle.singles.specs.Singleton.{single_drop, single_stay}
-use borrow.Author.Rules.{rules}
 use Rattle.singles.proofs.singleton.singleton_drop.Goals as goal
 
 pub returns-then-row_implied : goal.returns-then-row_implied

@@ -2,7 +2,6 @@
 use Rattle.view.specs.Steps.{ready_under}
 use Rattle.rows.specs.Knowing.{marks_spans, marks_adj, span_at}
 use Rattle.singles.specs.Singleton.{int_stop, int_emit}
-use borrow.Author.Rules.{rules}
 use Rattle.singles.proofs.singleton.singleton_int.Goals as goal
 
 pub written_terms-n-requires : goal.written_terms-n-requires

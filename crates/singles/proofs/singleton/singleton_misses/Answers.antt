@@ -1,6 +1,5 @@
 -- `singleton_misses` is singleton_misses.
 use Rattle.singles.specs.Singleton.{misses_is}
-use borrow.Author.Rules.{rules}
 use Rattle.singles.proofs.singleton.singleton_misses.Goals as goal
 
 pub returns : goal.returns

@@ -1,5 +1,4 @@
 -- `count_dropped` puts one more than it reads, modulo 2^64.
-use Rattle.std.proofs.Common.{rules}
 use Rattle.space.proofs.numbers_at.count_dropped.Goals as goal
 
 pub returns : goal.returns

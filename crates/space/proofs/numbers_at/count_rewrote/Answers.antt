@@ -1,5 +1,4 @@
 -- `count_rewrote` puts one more than it reads, modulo 2^64.
-use Rattle.std.proofs.Common.{rules}
 use Rattle.space.proofs.numbers_at.count_rewrote.Goals as goal
 
 pub returns : goal.returns

@@ -1,5 +1,4 @@
 -- `count_tightened` puts one more than it reads, modulo 2^64.
-use Rattle.std.proofs.Common.{rules}
 use Rattle.space.proofs.numbers_at.count_tightened.Goals as goal
 
 pub returns : goal.returns

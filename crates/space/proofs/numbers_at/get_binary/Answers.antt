@@ -1,6 +1,5 @@
 -- `get_binary` reads the place of `binary_at_lem`, which the slice is long enough for.
 use Rattle.space.specs.Blocks.{binary_at_lem}
-use Rattle.std.proofs.Common.{rules}
 use Rattle.space.proofs.numbers_at.get_binary.Goals as goal
 
 pub returns : goal.returns

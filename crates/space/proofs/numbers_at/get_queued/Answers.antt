@@ -1,5 +1,5 @@
 -- `get_queued` reads the place of `queued_at`, which the slice is long enough for.
-use Rattle.std.proofs.Common.{arith, rules}
+use Rattle.std.proofs.Common.{arith}
 use Rattle.space.specs.Blocks.{queued_at}
 use Rattle.space.proofs.numbers_at.get_queued.Goals as goal
 

@@ -1,6 +1,5 @@
 -- `get_var` reads the place of `vars_at`, which the slice is long enough for.
 use Rattle.space.specs.Blocks.{vars_at}
-use Rattle.std.proofs.Common.{rules}
 use Rattle.space.proofs.numbers_at.get_var.Goals as goal
 
 pub returns : goal.returns

@@ -1,6 +1,5 @@
 -- `get_wave` reads the place of `wave_at`, which the slice is long enough for.
 use Rattle.space.specs.Blocks.{wave_at}
-use Rattle.std.proofs.Common.{rules}
 use Rattle.space.proofs.numbers_at.get_wave.Goals as goal
 
 pub returns : goal.returns

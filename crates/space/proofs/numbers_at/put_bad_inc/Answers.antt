@@ -1,6 +1,5 @@
 -- `put_bad_inc` writes the place of `bad_inc_put`, which the slice is long enough for.
 use Rattle.space.specs.Blocks.{bad_inc_put}
-use Rattle.std.proofs.Common.{rules}
 use Rattle.space.proofs.numbers_at.put_bad_inc.Goals as goal
 
 pub returns : goal.returns

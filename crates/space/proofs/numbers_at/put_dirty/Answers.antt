@@ -1,6 +1,5 @@
 -- `put_dirty` writes the place of `dirty_put`, which the slice is long enough for.
 use Rattle.space.specs.Blocks.{dirty_put}
-use Rattle.std.proofs.Common.{rules}
 use Rattle.space.proofs.numbers_at.put_dirty.Goals as goal
 
 pub returns : goal.returns

@@ -1,6 +1,5 @@
 -- `put_fate` writes the place of `fate_put`, which the slice is long enough for.
 use Rattle.space.specs.Blocks.{fate_put}
-use Rattle.std.proofs.Common.{rules}
 use Rattle.space.proofs.numbers_at.put_fate.Goals as goal
 
 pub returns : goal.returns

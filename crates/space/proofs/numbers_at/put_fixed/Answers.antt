@@ -1,5 +1,5 @@
 -- `put_fixed` writes the place of `fixed_put`, which the slice is long enough for.
-use Rattle.std.proofs.Common.{arith, rules}
+use Rattle.std.proofs.Common.{arith}
 use Rattle.space.specs.Blocks.{fixed_put}
 use Rattle.space.proofs.numbers_at.put_fixed.Goals as goal
 

@@ -1,5 +1,5 @@
 -- `put_passes` writes the place of `passes_put`, which the slice is long enough for.
-use Rattle.std.proofs.Common.{arith, rules}
+use Rattle.std.proofs.Common.{arith}
 use Rattle.space.specs.Blocks.{passes_put}
 use Rattle.space.proofs.numbers_at.put_passes.Goals as goal
 

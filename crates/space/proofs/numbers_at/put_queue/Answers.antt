@@ -1,6 +1,5 @@
 -- `put_queue` writes the place of `queue_put`, which the slice is long enough for.
 use Rattle.space.specs.Blocks.{queue_put}
-use Rattle.std.proofs.Common.{rules}
 use Rattle.space.proofs.numbers_at.put_queue.Goals as goal
 
 pub returns : goal.returns

@@ -1,5 +1,5 @@
 -- `put_rewrote` writes the place of `rewrote_put`, which the slice is long enough for.
-use Rattle.std.proofs.Common.{arith, rules}
+use Rattle.std.proofs.Common.{arith}
 use Rattle.space.specs.Blocks.{rewrote_put}
 use Rattle.space.proofs.numbers_at.put_rewrote.Goals as goal
 

@@ -1,12 +1,7 @@
 -- `rewrite_loop`: what is left of the definition from term i on gives the whole.
 use Prim.Native.Nat.{◌-◌}
 use native.Mathlib.Omega.{arith}
-use mathlib.Core.Path.{◌≡◌}
-use lib.ListN.{length}
-use Rattle.formulas.specs.Rewriting.{form_is}
-use Rattle.space.specs.Store.{floats_of, numbers_of}
-use Rattle.tighten.specs.Tightening.{Tightening}
-use Rattle.tighten.specs.Loop.{AtTerm, at_start, at_next, at_back, at_end}
+use Rattle.tighten.specs.Loop.{at_start, at_next, at_back, at_end}
 use borrow.Author.Rules.{rules}
 use Rattle.tighten.proofs.rewriting.rewrite_loop.Goals as goal
 

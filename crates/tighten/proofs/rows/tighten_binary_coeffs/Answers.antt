@@ -1,10 +1,6 @@
 -- `tighten_binary_coeffs`: what is left of the definition from row r on gives the whole.
 use Prim.Native.Nat.{◌-◌}
-use mathlib.Core.Path.{◌≡◌}
-use lib.ListN.{length}
-use Rattle.space.specs.Store.{floats_of, numbers_of}
-use Rattle.tighten.specs.Tightening.{Tightening}
-use Rattle.tighten.specs.All.{AtRow, all_start, all_turn, all_end}
+use Rattle.tighten.specs.All.{all_start, all_turn, all_end}
 use borrow.Author.Rules.{rules}
 use Rattle.tighten.proofs.rows.tighten_binary_coeffs.Goals as goal
 

@@ -4,8 +4,7 @@ use mathlib.Core.Path.{◌≡◌}
 use lib.ListN.{length}
 use Rattle.space.specs.Store.{floats_of, numbers_of}
 use Rattle.tighten.specs.Tightening.{Tightening}
-use Rattle.tighten.specs.All.{AtRow, all_start, all_turn, all_end}
-use borrow.Author.Rules.{rules}
+use Rattle.tighten.specs.All.{AtRow}
 use Rattle.tighten.proofs.rows.tighten_binary_coeffs.Given as goal
 
 abbrev pub invariant-loop-r : goal.invariant-loop-r

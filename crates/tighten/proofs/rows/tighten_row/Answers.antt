@@ -1,6 +1,5 @@
 -- `tighten_row`, by the row's two marks.
 use Rattle.tighten.specs.Rows.{row_goes, row_seen, row_dead}
-use borrow.Author.Rules.{rules}
 use Rattle.tighten.proofs.rows.tighten_row.Goals as goal
 
 pub returns-then-d-eq1 : goal.returns-then-d-eq1

@@ -1,12 +1,8 @@
 -- `waves` is waves, as many as are left.
 use Prim.Native.Nat.{◌-◌}
 use native.Mathlib.Omega.{arith}
-use mathlib.Core.Path.{◌≡◌}
-use lib.ListN.{length}
-use Rattle.space.specs.Store.{floats_of, numbers_of}
-use Rattle.view.specs.Known.{Known}
 use Rattle.wave.specs.Begin.{waves_is}
-use Rattle.wave.specs.Again.{Waving, waving_start, waving_ready, waving_small, waving_idle, waving_end, waving_stop, waving_turn}
+use Rattle.wave.specs.Again.{waving_start, waving_ready, waving_small, waving_idle, waving_end, waving_stop, waving_turn}
 use borrow.Author.Rules.{rules}
 use Rattle.wave.proofs.again.waves.Goals as goal
 

@@ -2,7 +2,6 @@
 use native.Mathlib.Omega.{arith}
 use Rattle.space.specs.Blocks.{queued_length, passes_length}
 use Rattle.wave.specs.Begin.{queued_fits, passes_small, ready_wave, wave_tries}
-use borrow.Author.Rules.{rules}
 use Rattle.wave.proofs.primal.primal_wave.Goals as goal
 
 pub copy_queue-requires : goal.copy_queue-requires

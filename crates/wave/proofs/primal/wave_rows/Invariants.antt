@@ -1,13 +1,10 @@
 -- `wave_rows` is wave_rows, over the n rows that stand in the block of the wave's rows.
 use Prim.Native.Nat.{◌-◌}
-use mathlib.Core.Path.{◌≡◌, refl}
+use mathlib.Core.Path.{◌≡◌}
 use lib.ListN.{length}
 use Rattle.space.specs.Store.{floats_of, numbers_of}
-use Rattle.space.specs.Blocks.{wave_length}
 use Rattle.view.specs.Known.{Known}
-use Rattle.wave.specs.Row.{row_is}
-use Rattle.wave.specs.Rows.{Passing, passing_start, passing_ready, passing_row, passing_turn, passing_stop, passing_end}
-use borrow.Author.Rules.{rules}
+use Rattle.wave.specs.Rows.{Passing}
 use Rattle.wave.proofs.primal.wave_rows.Given as goal
 
 abbrev pub invariant-loop-i : goal.invariant-loop-i

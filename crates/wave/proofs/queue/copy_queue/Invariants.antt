@@ -1,12 +1,9 @@
 -- `copy_queue`: the rows queued so far stand in the wave's block, in their order.
 use Prim.Native.Nat.{◌-◌, ◌≤◌}
-use native.Mathlib.Omega.{arith}
 use mathlib.Core.Path.{◌≡◌}
 use lib.ListN.{length}
 use Rattle.space.specs.Store.{numbers_of}
-use Rattle.space.specs.Blocks.{wave_length, queue_length}
-use Rattle.wave.specs.Begin.{Copied, copied_turn, copied_end}
-use borrow.Author.Rules.{rules}
+use Rattle.wave.specs.Begin.{Copied}
 use Rattle.wave.proofs.queue.copy_queue.Given as goal
 
 abbrev pub invariant-loop-i : goal.invariant-loop-i

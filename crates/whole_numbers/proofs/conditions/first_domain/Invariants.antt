@@ -1,8 +1,7 @@
 -- `first_domain`: finds the first place where its test holds. The invariant: what is left finds what the whole finds.
 use Prim.Native.Nat.{◌-◌}
 use Rattle.whole_numbers.specs.Fault.{domain_off}
-use Rattle.whole_numbers.specs.First.{Passed, start, turn_by, found_by, end}
-use borrow.Author.Rules.{rules}
+use Rattle.whole_numbers.specs.First.{Passed}
 use Rattle.whole_numbers.proofs.conditions.first_domain.Given as goal
 
 abbrev pub invariant-loop-v : goal.invariant-loop-v

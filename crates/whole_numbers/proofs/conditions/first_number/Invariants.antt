@@ -1,9 +1,7 @@
 -- `first_number`: finds the first place where its test holds. The invariant: what is left finds what the whole finds.
 use Prim.Native.Nat.{◌-◌}
 use Rattle.whole_numbers.specs.Floats.{beyond}
-use Rattle.whole_numbers.specs.Branches.{number_ok, number_fails}
-use Rattle.whole_numbers.specs.First.{Passed, start, turn, found, end}
-use borrow.Author.Rules.{rules}
+use Rattle.whole_numbers.specs.First.{Passed}
 use Rattle.whole_numbers.proofs.conditions.first_number.Given as goal
 
 abbrev pub invariant-loop-i : goal.invariant-loop-i

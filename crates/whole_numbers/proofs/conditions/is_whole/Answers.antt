@@ -3,7 +3,6 @@ use mathlib.Core.Path.{sym, ap, subst, ◌∙◌}
 use lib.Dec.{T}
 use lib.Ieee.{Float, eq}
 use Rattle.whole_numbers.specs.Floats.{finite_whole, infinite_whole}
-use borrow.Author.Rules.{rules}
 use Rattle.whole_numbers.proofs.conditions.is_whole.Goals as goal
 
 pub returns-then-is_finite : goal.returns-then-is_finite

@@ -2,7 +2,6 @@
 use mathlib.Core.Path.{sym, ap, ◌∙◌}
 use lib.Ieee.{Float, le}
 use Rattle.whole_numbers.specs.Branches.{size_next, not_whole}
-use borrow.Author.Rules.{rules}
 use Rattle.whole_numbers.proofs.conditions.whole_within.Goals as goal
 
 pub returns-then-is_whole : goal.returns-then-is_whole
