@@ -5,7 +5,7 @@
 // is learnt by heart. It also compares every result, bit for bit.
 //
 // Crate floats_c exports the two:
-//     rt staticlib floats_c
+//     tools/staticlib floats_c
 //     gcc -O3 bench/floor_bench.c target/staticlib/libfloats_c.a -lm -o target/floor_bench && target/floor_bench
 #include <math.h>
 #include <stdint.h>

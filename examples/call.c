@@ -1,7 +1,7 @@
 /* Presolves 3u + w <= 10, u yes or no, w a whole number from 0 to 8, and prints the answer. Then u + w <= 8, whose row is
  * emitted as written, the first call again with an answer slice that is too short, and u + w >= 10.
  *
- *     rt staticlib presolve_c
+ *     tools/staticlib presolve_c
  *     cc -O2 -I include examples/call.c target/staticlib/libpresolve_c.a -o target/call && target/call
  *
  * prints what examples/call.out holds.

@@ -1,7 +1,7 @@
 /* Presolves 3u + w <= 10, u yes or no, w a whole number from 0 to 8, by the structs of presolve_model.h, and prints the reduced
  * model. Then what is infeasible and what is refused.
  *
- *     rt staticlib presolve_c
+ *     tools/staticlib presolve_c
  *     cc -O2 -I include examples/model.c target/staticlib/libpresolve_c.a -o target/model && target/model
  *
  * prints what examples/model.out holds.

@@ -1,12 +1,12 @@
 /* Presolve of a linear or integer model: the proved static library libpresolve_c.a, for C and C++.
  *
- *     rt staticlib presolve_c
+ *     tools/staticlib presolve_c
  *     cc -I include program.c target/staticlib/libpresolve_c.a
  *
  * include/presolve_model.h has the same by structs, with words for what is returned; include/presolve.rs is for Rust. The
  * library allocates nothing, keeps nothing between calls and calls only memset. It runs on x86-64 Linux, where size_t has 64
- * bits. Codes and counts have the names of src/problem.rs, src/expr.rs and src/presolve/model.rs of microlp 0.7.0, changed
- * for C; NOTICE has its licence.
+ * bits, on processors of x86-64-v2 and later, and does not test which it is on. Codes and counts have the names of
+ * src/problem.rs, src/expr.rs and src/presolve/model.rs of microlp 0.7.0, changed for C; NOTICE has its licence.
  *
  * Every slice is a pointer and a count of entries. The caller's duties, which no refusal checks:
  *   - a pointer is not null and is aligned for its entries, also where the count is 0;

@@ -1,7 +1,7 @@
 //! Presolve of a linear or integer model: the proved static library libpresolve_c.a, for Rust. include/presolve.h says what
 //! each slice is, what is returned, and how long the working slices must be.
 //!
-//!     rt staticlib presolve_c
+//!     tools/staticlib presolve_c
 //!     rustc -L native=target/staticlib -l static=presolve_c ..
 //!
 //! The functions below take slices, so the duties of a C caller are met by their types. They test nothing: the library refuses.

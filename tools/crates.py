@@ -4,9 +4,9 @@
     tools/crates.py           writes the lists anew
     tools/crates.py --check   says whether they are what it would write: status 1 and the lines where not
 
-Order and comments are crates.txt's own; a new crate is a line `NAME:` in its place. A crate may use only crates above it. What
-it uses is read from its text: NAME of `Rattle·NAME` in any file of src, specs and proofs, and of `NAME::` in src where the crate has no
-module NAME; besides, what UNNAMED has.
+Order and comments are crates.txt's own; a new crate is a line `NAME:` in its place, a static library a line `NAME staticlib:`. A
+crate may use only crates above it. What it uses is read from its text: NAME of `Rattle.NAME.` in any file of src, specs and proofs,
+and of `NAME::` in src where the crate has no module NAME; besides, what UNNAMED has. std is always there and never listed.
 """
 import os
 import re
@@ -14,8 +14,6 @@ import sys
 
 ROOT = os.path.dirname(os.path.dirname(os.path.abspath(__file__)))
 LIST = os.path.join(ROOT, "crates.txt")
-# The kit's own libraries that programs use, and what the kit wants named beside each.
-KIT = {"io": ["libc"], "libc": [], "os": ["io", "libc"]}
 # Crates that declare the type of a value that a crate reaches without naming it: the kit asks for them by that reason.
 UNNAMED = {"presolve_trials": ["output"]}
 
@@ -32,16 +30,13 @@ def used(crate, names):
     found = set()
     for folder in ("src", "specs", "proofs"):
         for text in texts(crate, folder, (".rt", ".antt")):
-            found.update(re.findall(r"Rattle·([a-z0-9_]+)", text))
+            found.update(re.findall(r"\bRattle\.([a-z0-9_]+)\.", text))
     code = list(texts(crate, "src", ".rt"))
     own = {m for text in code for m in re.findall(r"^ *(?:pub(?:\(crate\))? )?mod ([a-z0-9_]+);", text, re.M)}
     for text in code:
         found.update(m for m in re.findall(r"\b([a-z0-9_]+)::", text) if m not in own)
     found.update(UNNAMED.get(crate, []))
-    found &= names
-    for library in found & set(KIT):
-        found.update(KIT[library])
-    return found - {crate}
+    return found & names - {crate}
 
 
 def main():
@@ -49,18 +44,18 @@ def main():
         sys.exit(__doc__)
     with open(LIST, encoding="utf-8") as f:
         lines = f.read().split("\n")
-    order = [m.group(1) for m in (re.match(r"([a-z0-9_]+):", line) for line in lines) if m]
-    place = {crate: i for i, crate in enumerate(order + list(KIT))}
+    heads = [re.match(r"([a-z0-9_]+)( staticlib)?:", line) for line in lines]
+    place = {m.group(1): i for i, m in enumerate(m for m in heads if m)}
     faults, out = [], []
     for folder in sorted(os.listdir(os.path.join(ROOT, "crates"))):
         if folder not in place:
             faults.append(f"crates/{folder} has no line in crates.txt")
-    for line in lines:
-        crate = line.split(":")[0]
-        if crate in order and line.startswith(crate + ":"):
+    for line, head in zip(lines, heads):
+        if head:
+            crate = head.group(1)
             uses = used(crate, set(place))
-            faults += [f"{crate} uses {other}, which stands below it" for other in uses - set(KIT) if place[other] > place[crate]]
-            line = " ".join([crate + ":"] + sorted(uses, key=place.get))
+            faults += [f"{crate} uses {other}, which stands below it" for other in uses if place[other] > place[crate]]
+            line = " ".join([head.group(0)] + sorted(uses, key=place.get))
         out.append(line)
     if sys.argv[1:]:
         faults += [f"has   {old}\ncrates.py: wants {new}" for old, new in zip(lines, out) if old != new]

@@ -3,13 +3,12 @@ install_into() { # DIR
     [ "$installed" = no ] || die 3 "this is an installed program: install from the sources"
     find_program && [ "$kind" = proved ] || build_proved
     library=$root/target/staticlib/libpresolve_c.a
-    if [ ! -f "$library" ] || [ -n "$(find "$root/crates" -name '*.rt' -newer "$library" | head -n 1)" ]; then
+    if [ ! -f "$library" ] || [ -n "$(find "$root/crates" -name out -prune -o -name '*.rt' -newer "$library" -print | head -n 1)" ]; then
         command -v rt >/dev/null || die 3 "rt is not on the PATH: it is in the folder bin of the Rattle kit"
         locked
         say "proving and building the library, which takes a minute after the program. What rt says is in target/presolve-library.log"
-        start "$root/target/presolve-library.log" sh -c 'cd "$1" && exec rt staticlib presolve_c' sh "$root"
-        wait "$child" || { child=''; release; die 3 "no library: $root/target/presolve-library.log says why"; }
-        child=''
+        start "$root/target/presolve-library.log" "$root/tools/staticlib" presolve_c
+        finished || { release; die 3 "no library: $root/target/presolve-library.log says why"; }
         release
     fi
     find_program

@@ -1,4 +1,4 @@
-// Links libpresolve_c.a, of the folder PRESOLVE_LIB_DIR or of target/staticlib (`rt staticlib presolve_c`).
+// Links libpresolve_c.a, of the folder PRESOLVE_LIB_DIR or of target/staticlib (`tools/staticlib presolve_c`).
 use std::env;
 use std::path::PathBuf;
 
@@ -10,7 +10,7 @@ fn main() {
     let library = folder.join("libpresolve_c.a");
     println!("cargo:rerun-if-changed={}", library.display());
     if !library.is_file() {
-        println!("cargo:warning={} is not there: rt staticlib presolve_c, or PRESOLVE_LIB_DIR", library.display());
+        println!("cargo:warning={} is not there: tools/staticlib presolve_c, or PRESOLVE_LIB_DIR", library.display());
     }
     println!("cargo:rustc-link-search=native={}", folder.display());
     println!("cargo:rustc-link-lib=static=presolve_c");
