@@ -1,6 +1,7 @@
 -- 01's FARM MODEL AS A TEST: the earliest of 01's conditions that a model fails, and the first place where it does, or none. The conditions stand
 -- in 01's order. `Exactly` proves that none fails exactly where the model is `WholeNumbers` (points_kept), the hypothesis of the promise about points.
-use Rattle.std.specs.Prelude.{ℕ, zero, suc, ◌+◌, ◌-◌, Bool, not, ◌&&◌, ◌||◌, List, [], ◌∷◌, eqb, ltb, leb, length, get_or, Float}
+-- `told` asks the objective after them; the code answers `fault`.
+use Rattle.std.specs.Prelude.{ℕ, zero, suc, ◌+◌, ◌-◌, Bool, not, ◌&&◌, ◌||◌, List, [], ◌∷◌, ◌++◌, eqb, ltb, leb, length, get_or, Float}
 use Rattle.std.proofs.Math.Option.{Option, none, some}
 use Rattle.std.specs.Float.{binary64}
 use Rattle.std.specs.Float.Ieee.{fits, le}
@@ -52,6 +53,10 @@ tolerance_off feas int_tol (suc i) = not (tolerable int_tol)
 unfoldable pub mode_off : ℕ → ℕ → Bool
 mode_off mode i = not (eqb mode 1 || eqb mode 2)
 
+-- a variable's objective: not whole. Its size is free
+unfoldable pub objective_off : List Float → ℕ → Bool
+objective_off obj v = not (is_whole (at obj v))
+
 -- a condition: its number, the test that fails it, and at how many places it is asked
 pub record Condition : Type 0 where
   pub number : ℕ
@@ -80,3 +85,11 @@ earliest_fault (c ∷ cs) =
 
 unfoldable pub fault : Model → Option (ℕ × ℕ)
 fault M = earliest_fault (conditions M)
+
+-- what 02's W13 asks beside the farm model: a whole objective. 01 asks nothing of the objective, so it stands last, and 8 is told of farm models alone
+unfoldable pub objective : Model → Condition
+objective M = record { number = 8; fails = objective_off M.obj; places = length M.lower }
+
+-- the earliest fault of 01's conditions and, where none of them fails, of the objective
+unfoldable pub told : Model → Option (ℕ × ℕ)
+told M = earliest_fault (conditions M ++ (objective M ∷ []))
