@@ -8,8 +8,10 @@ mod helpers;
 mod print;
 mod rows;
 
-fn main() {
-    helpers::all();
-    doubles::all();
-    rows::all();
+use std::io;
+
+fn main(rt: HostRuntime) -> io::Result<()> {
+    helpers::all(&rt)?;
+    doubles::all(&rt)?;
+    rows::all(&rt)
 }

@@ -1,4 +1,5 @@
 // Lines of text.
+use std::io;
 
 // A pattern for every float: the language has one NaN, which is written as the usual quiet one.
 fn bits(x: f64) -> u64 {
@@ -9,62 +10,64 @@ fn bits(x: f64) -> u64 {
     }
 }
 
-pub(crate) fn name(text: &[u8]) {
-    io::write_all(1, text);
+pub(crate) fn name(rt: &impl Print, text: &str) -> io::Result<()> {
+    rt.print(text)
 }
 
-pub(crate) fn float(x: f64) {
-    io::write_all(1, b" ");
-    io::print_hex(1, bits(x), 16);
+pub(crate) fn float(rt: &impl Print, x: f64) -> io::Result<()> {
+    let pattern = bits(x);
+    print!(rt; " {pattern:016x}")
 }
 
-pub(crate) fn number(n: u64) {
-    io::write_all(1, b" ");
-    io::print_decimal(1, n);
+pub(crate) fn number(rt: &impl Print, n: u64) -> io::Result<()> {
+    print!(rt; " {n}")
 }
 
-pub(crate) fn truth(b: bool) {
-    if b {
-        io::write_all(1, b" true");
-    } else {
-        io::write_all(1, b" false");
-    }
+pub(crate) fn truth(rt: &impl Print, b: bool) -> io::Result<()> {
+    print!(rt; " {b}")
 }
 
-pub(crate) fn end() {
-    io::write_all(1, b"\n");
+pub(crate) fn end(rt: &impl Print) -> io::Result<()> {
+    rt.print("\n")
 }
 
 // A function of one float.
-pub(crate) fn one(text: &[u8], x: f64, r: f64) {
-    name(text);
-    float(x);
-    float(r);
-    end();
+pub(crate) fn one(rt: &impl Print, text: &str, x: f64, r: f64) -> io::Result<()> {
+    name(rt, text)?;
+    float(rt, x)?;
+    float(rt, r)?;
+    end(rt)
 }
 
-pub(crate) fn test(text: &[u8], x: f64, r: bool) {
-    name(text);
-    float(x);
-    truth(r);
-    end();
+pub(crate) fn test(rt: &impl Print, text: &str, x: f64, r: bool) -> io::Result<()> {
+    name(rt, text)?;
+    float(rt, x)?;
+    truth(rt, r)?;
+    end(rt)
 }
 
 // A function of two floats.
-pub(crate) fn two(text: &[u8], x: f64, y: f64, r: f64) {
-    name(text);
-    float(x);
-    float(y);
-    float(r);
-    end();
+pub(crate) fn two(rt: &impl Print, text: &str, x: f64, y: f64, r: f64) -> io::Result<()> {
+    name(rt, text)?;
+    float(rt, x)?;
+    float(rt, y)?;
+    float(rt, r)?;
+    end(rt)
 }
 
 // One of two floats with two results.
-pub(crate) fn parts(text: &[u8], x: f64, y: f64, hi: f64, lo: f64) {
-    name(text);
-    float(x);
-    float(y);
-    float(hi);
-    float(lo);
-    end();
+pub(crate) fn parts(
+    rt: &impl Print,
+    text: &str,
+    x: f64,
+    y: f64,
+    hi: f64,
+    lo: f64,
+) -> io::Result<()> {
+    name(rt, text)?;
+    float(rt, x)?;
+    float(rt, y)?;
+    float(rt, hi)?;
+    float(rt, lo)?;
+    end(rt)
 }

@@ -2,22 +2,22 @@
 // promise about points is made: `numbers whole`, or `numbers`, the condition that fails and its place.
 #![tactic(auto)]
 
-use libc::STDOUT_FILENO;
 use presolve_file::{FILE_BYTES, TEXT_BYTES};
+use std::io;
+use std::io::Write;
 
-fn print_answer(file: &[u8]) {
+fn print_answer(rt: &impl Print, file: &[u8]) -> io::Result<()> {
     let mut text = [0u8; TEXT_BYTES];
     let n = numbers_file::numbers_text(file, &mut text);
-    io::write_all(STDOUT_FILENO, &text[..n]);
+    io::writer(rt).write_all(&text[..n])
 }
 
-fn main() {
+fn main(rt: HostRuntime) -> io::Result<()> {
     let mut file = [0u8; FILE_BYTES];
-    let input = standard_input::read_input(&mut file);
+    let input = standard_input::read_input(&mut rt.stdin(), &mut file);
     if input.failed {
-        os::fail(b"presolve: standard input");
-        return;
+        return Err(io::Error::other("presolve: standard input"));
     }
     let n = input.bytes;
-    print_answer(&file[..n]);
+    print_answer(&rt, &file[..n])
 }

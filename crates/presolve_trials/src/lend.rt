@@ -6,6 +6,7 @@ ghost use Rattle.std.specs.Float.Ieee.{of_bits};
 
 use crate::{either, print};
 use presolve::Answer;
+use std::io;
 
 // The junk that lent numbers and lent marks hold.
 pub(crate) const JUNK: usize = 18446744073709551615;
@@ -114,34 +115,28 @@ fn float_is(x: f64, zero: bool, junk: f64) -> bool {
 
 // From a place on there are zeros, +0.0, up to another, and then junk.
 fn floats_hold(s: &[f64], from: usize, zeros: usize, junk: f64) -> bool {
-    let mut i = from;
-    while i < s.len() {
-        if !float_is(s[i], i < zeros, junk) {
+    for (i, x) in s.iter().enumerate().skip(from) {
+        if !float_is(*x, i < zeros, junk) {
             return false;
         }
-        i += 1;
     }
     true
 }
 
 fn numbers_hold(s: &[usize], from: usize, zeros: usize) -> bool {
-    let mut i = from;
-    while i < s.len() {
-        if s[i] != either::number(i < zeros, 0, JUNK) {
+    for (i, x) in s.iter().enumerate().skip(from) {
+        if *x != either::number(i < zeros, 0, JUNK) {
             return false;
         }
-        i += 1;
     }
     true
 }
 
 fn marks_hold(s: &[u8], from: usize) -> bool {
-    let mut i = from;
-    while i < s.len() {
-        if s[i] != MARK {
+    for x in s.iter().skip(from) {
+        if *x != MARK {
             return false;
         }
-        i += 1;
     }
     true
 }
@@ -189,6 +184,7 @@ fn working(
 
 // One call on the working slices as they are.
 fn call(
+    rt: &impl Print,
     p: Plan,
     f: &[f64],
     n: &[usize],
@@ -196,7 +192,7 @@ fn call(
     floats: &mut [f64],
     numbers: &mut [usize],
     adjacency: &mut [usize],
-) -> Answer {
+) -> io::Result<Answer> {
     let vars = size(p.vars);
     let rows = size(p.rows);
     let terms = size(p.terms);
@@ -247,14 +243,21 @@ fn call(
         numbers,
         adjacency,
     );
-    print::answer(a);
+    print::answer(rt, a)?;
     let ok = results(a, p, &x0, &x1, &x2, &x3, &x4, &x5, &x6, &x7, &x8, &x9);
-    print::judged(b", results", ok);
-    a
+    print::judged(rt, ", results", ok)?;
+    Ok(a)
 }
 
 // One call on working slices that hold junk.
-pub(crate) fn ask(name: &[u8], p: Plan, f: &[f64], n: &[usize], c: &[u8]) {
+pub(crate) fn ask(
+    rt: &impl Print,
+    name: &str,
+    p: Plan,
+    f: &[f64],
+    n: &[usize],
+    c: &[u8],
+) -> io::Result<()> {
     let vars = size(p.vars);
     let rows = size(p.rows);
     let terms = size(p.terms);
@@ -268,14 +271,15 @@ pub(crate) fn ask(name: &[u8], p: Plan, f: &[f64], n: &[usize], c: &[u8]) {
     let w_lent = floats_cut(&mut w, l);
     let u_lent = numbers_cut(&mut u, m);
     let j_lent = numbers_cut(&mut j, k);
-    print::text(name);
-    let a = call(p, f, n, c, w_lent, u_lent, j_lent);
-    print::judged(b", working", working(a, p.junk, &w, l, &u, m, &j, k));
-    print::text(b"\n");
+    print::text(rt, name)?;
+    let a = call(rt, p, f, n, c, w_lent, u_lent, j_lent)?;
+    print::judged(rt, ", working", working(a, p.junk, &w, l, &u, m, &j, k))?;
+    print::text(rt, "\n")
 }
 
 // One call on working slices as an earlier one left them; at first their floats held `held`.
 pub(crate) fn ask_again(
+    rt: &impl Print,
     p: Plan,
     f: &[f64],
     n: &[usize],
@@ -284,11 +288,12 @@ pub(crate) fn ask_again(
     u: &mut [usize],
     j: &mut [usize],
     held: f64,
-) {
-    let a = call(p, f, n, c, w, u, j);
+) -> io::Result<()> {
+    let a = call(rt, p, f, n, c, w, u, j)?;
     print::judged(
-        b", working",
+        rt,
+        ", working",
         working(a, held, w, w.len(), u, u.len(), j, j.len()),
-    );
-    print::text(b"\n");
+    )?;
+    print::text(rt, "\n")
 }

@@ -13,9 +13,11 @@ mod lend;
 mod print;
 mod refusals;
 
-fn main() {
-    days::all();
-    exact::all();
-    refusals::all();
-    large::all();
+use std::io;
+
+fn main(rt: HostRuntime) -> io::Result<()> {
+    days::all(&rt)?;
+    exact::all(&rt)?;
+    refusals::all(&rt)?;
+    large::all(&rt)
 }

@@ -1,56 +1,49 @@
 // The parts of a line.
 use definition::Counts;
 use presolve::Answer;
+use std::io;
 
-pub(crate) fn text(t: &[u8]) {
-    io::write_all(1, t);
+pub(crate) fn text(rt: &impl Print, t: &str) -> io::Result<()> {
+    rt.print(t)
 }
 
-pub(crate) fn number(n: usize) {
-    io::write_all(1, b" ");
-    io::print_decimal(1, n as u64);
+pub(crate) fn number(rt: &impl Print, n: usize) -> io::Result<()> {
+    print!(rt; " {n}")
 }
 
-fn counts(k: Counts) {
-    number(k.rowsDropped);
-    number(k.boundsTightened);
-    number(k.varsFixed);
-    number(k.coeffsTightened);
-    number(k.passes);
+fn counts(rt: &impl Print, k: Counts) -> io::Result<()> {
+    number(rt, k.rowsDropped)?;
+    number(rt, k.boundsTightened)?;
+    number(rt, k.varsFixed)?;
+    number(rt, k.coeffsTightened)?;
+    number(rt, k.passes)
 }
 
 // The verdict and the five counts; of a model also how many rows are emitted, how many terms the
 // rewritten ones have, and how many rows are kept.
-pub(crate) fn answer(a: Answer) {
+pub(crate) fn answer(rt: &impl Print, a: Answer) -> io::Result<()> {
     match a {
         Answer::Refused(k) => {
-            text(b": refused");
-            number(k as usize);
+            text(rt, ": refused")?;
+            number(rt, k as usize)
         }
         Answer::Infeasible(k) => {
-            text(b": infeasible");
-            counts(k);
+            text(rt, ": infeasible")?;
+            counts(rt, k)
         }
         Answer::Presolved(x) => {
-            if x.flag {
-                text(b": reduced");
-            } else {
-                text(b": unchanged");
-            }
-            counts(x.counts);
-            text(b" with");
-            number(x.emitted);
-            number(x.terms);
-            number(x.kept);
+            let verdict = if x.flag { ": reduced" } else { ": unchanged" };
+            text(rt, verdict)?;
+            counts(rt, x.counts)?;
+            text(rt, " with")?;
+            number(rt, x.emitted)?;
+            number(rt, x.terms)?;
+            number(rt, x.kept)
         }
     }
 }
 
-pub(crate) fn judged(t: &[u8], ok: bool) {
-    text(t);
-    if ok {
-        text(b" ok");
-    } else {
-        text(b" bad");
-    }
+pub(crate) fn judged(rt: &impl Print, t: &str, ok: bool) -> io::Result<()> {
+    text(rt, t)?;
+    text(rt, if ok { " ok" } else { " bad" })
 }

@@ -5,55 +5,55 @@
 
 mod prefixes;
 
-use libc::STDOUT_FILENO;
 use presolve_file::{FILE_BYTES, TEXT_BYTES};
+use std::fs::File;
+use std::io::{Read, Write};
+use std::rt::Files;
+use std::{env, io};
 
 // Of longer files the prefixes are not run.
 const PREFIXES: usize = 7000;
 
-fn print_file(file: &[u8]) {
+fn print_file(rt: &impl Print, file: &[u8]) -> io::Result<()> {
     let mut text = [0u8; TEXT_BYTES];
     let n = presolve_file::file_text(file, &mut text);
-    io::write_all(STDOUT_FILENO, &text[..n]);
+    io::writer(rt).write_all(&text[..n])
 }
 
-fn run_file(file: &[u8]) {
-    print_file(file);
+fn run_file(rt: &impl Print, file: &[u8]) -> io::Result<()> {
+    print_file(rt, file)?;
     if file.len() <= PREFIXES {
-        prefixes::print_prefixes(file);
+        prefixes::print_prefixes(rt, file)?;
     }
+    Ok(())
 }
 
-fn run_open(fd: i32) {
+fn run_open(rt: &impl Print, opened: &mut impl Read) -> io::Result<()> {
     let mut file = [0u8; FILE_BYTES];
-    let n = io::read_full(fd, &mut file);
-    run_file(&file[..n]);
-}
-
-fn run_path(path: &[u8]) {
-    io::write_all(STDOUT_FILENO, b"== ");
-    io::write_all(STDOUT_FILENO, path);
-    io::write_all(STDOUT_FILENO, b"\n");
-    let fd = os::open_read(path);
-    if fd < 0 {
-        os::fail(path);
-        return;
+    let input = standard_input::read_input(opened, &mut file);
+    if input.failed {
+        return Err(io::Error::other("run_examples: a file"));
     }
-    run_open(fd);
-    libc::close(fd);
+    let n = input.bytes;
+    run_file(rt, &file[..n])
 }
 
-fn run_argument(i: usize) {
-    let mut path = io::buffer();
-    let n = os::arg(i, &mut path);
-    run_path(&path[..n]);
-}
-
-fn main() {
-    let n = os::arg_count();
-    let mut i = 1;
-    while i < n {
-        run_argument(i);
-        i += 1;
+// A file that cannot be opened is named on standard error.
+fn run_path(rt: &(impl Files + Print + Eprint), path: &str) -> io::Result<()> {
+    match File::open(rt, path) {
+        Ok(mut opened) => run_open(rt, &mut opened),
+        Err(error) => eprintln!(rt; "{path}: {error}"),
     }
+}
+
+fn run_argument(rt: &(impl Files + Print + Eprint), path: &str) -> io::Result<()> {
+    println!(rt; "== {path}")?;
+    run_path(rt, path)
+}
+
+fn main(rt: HostRuntime) -> io::Result<()> {
+    for path in env::args(&rt)?.skip(1) {
+        run_argument(&rt, path.as_str())?;
+    }
+    Ok(())
 }

@@ -1,82 +1,63 @@
 // Every prefix of a file but the file itself: for each length at which the first line that is printed
 // changes, the length and that line.
-ghost use Rattle.io.specs.Counts.{IsPrefixLen};
+ghost use Rattle.std.specs.Prelude.{IfOk};
+ghost use Rattle.standard_input.specs.Counts.{IsPrefixLen};
 
-use libc::STDOUT_FILENO;
 use presolve_file::TEXT_BYTES;
+use std::io;
+use std::io::Write;
 
 // How many bytes stand before the first line's end.
 fn first_line(text: &[u8]) -> usize
     ensures { IsPrefixLen result text.now }
 {
-    let mut i = 0;
-    while i < text.len() {
-        if text[i] == b'\n' {
-            break;
+    for (i, byte) in text.iter().enumerate() {
+        if *byte == b'\n' {
+            return i;
         }
-        i += 1;
     }
-    i
+    text.len()
 }
 
 fn same(a: &[u8], b: &[u8]) -> bool {
-    if a.len() != b.len() {
-        return false;
-    }
-    let mut i = 0;
-    while i < a.len() {
-        if a[i] != b[i] {
-            return false;
-        }
-        i += 1;
-    }
-    true
+    a == b
 }
 
 // Puts a line at the start of kept, as far as there is room, and answers how many bytes that is.
 fn keep(line: &[u8], kept: &mut [u8]) -> usize
     ensures { IsPrefixLen result kept.new }
 {
-    let mut i = 0;
-    while i < line.len() {
-        if kept.len() <= i {
-            break;
-        }
-        kept[i] = line[i];
-        i += 1;
-    }
-    i
+    let n = line.len().min(kept.len());
+    kept[..n].copy_from_slice(&line[..n]);
+    n
 }
 
-fn print_line(n: usize, line: &[u8]) {
-    io::write_all(STDOUT_FILENO, b"from ");
-    io::print_decimal(STDOUT_FILENO, n as u64);
-    io::write_all(STDOUT_FILENO, b": ");
-    io::write_all(STDOUT_FILENO, line);
-    io::write_all(STDOUT_FILENO, b"\n");
+fn print_line(rt: &impl Print, n: usize, line: &[u8]) -> io::Result<()> {
+    print!(rt; "from {n}: ")?;
+    io::writer(rt).write_all(line)?;
+    rt.print("\n")
 }
 
 // One prefix. The first j bytes of last are the line that was printed last, before and after.
-fn print_prefix(prefix: &[u8], last: &mut [u8], j: usize) -> usize
+fn print_prefix(rt: &impl Print, prefix: &[u8], last: &mut [u8], j: usize) -> io::Result<usize>
     requires { IsPrefixLen j last.old }
-    ensures { IsPrefixLen result last.new }
+    ensures { IfOk result (λ n. IsPrefixLen n last.new) }
 {
     let mut text = [0u8; TEXT_BYTES];
     presolve_file::file_text(prefix, &mut text);
     let e = first_line(&text);
     if same(&text[..e], &last[..j]) {
-        return j;
+        return Ok(j);
     }
-    print_line(prefix.len(), &text[..e]);
-    keep(&text[..e], last)
+    print_line(rt, prefix.len(), &text[..e])?;
+    Ok(keep(&text[..e], last))
 }
 
-pub(crate) fn print_prefixes(file: &[u8]) {
+pub(crate) fn print_prefixes(rt: &impl Print, file: &[u8]) -> io::Result<()> {
     let mut last = [0u8; 64];
     let mut j = 0;
-    let mut n = 0;
-    while n < file.len() {
-        j = print_prefix(&file[..n], &mut last, j);
-        n += 1;
+    for n in 0..file.len() {
+        j = print_prefix(rt, &file[..n], &mut last, j)?;
     }
+    Ok(())
 }

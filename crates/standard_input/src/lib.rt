@@ -1,9 +1,9 @@
-// Reading standard input into a lent buffer, for the programs.
+// Reading a whole input into a lent buffer, for the programs.
 #![tactic(auto)]
 
-ghost use Rattle.io.specs.Counts.{IsPrefixLen};
+ghost use Rattle.standard_input.specs.Counts.{IsPrefixLen};
 
-use libc::STDIN_FILENO;
+use std::io::Read;
 
 // How many bytes were read, and whether a read failed: that is no file that ends early.
 #[derive(Clone, Copy)]
@@ -13,19 +13,20 @@ pub struct Input {
 }
 
 // Reads until file is full or the input ends.
-pub fn read_input(file: &mut [u8]) -> Input
+pub fn read_input<R: Read>(from: &mut R, file: &mut [u8]) -> Input
     ensures { IsPrefixLen result.bytes file.new }
 {
     let mut at = 0;
     while at < file.len() {
-        let got = libc::read(STDIN_FILENO, &mut file[at..]);
-        if got < 0 {
-            return Input {
-                bytes: 0,
-                failed: true,
-            };
-        }
-        let n = io::count(got, &file[at..]);
+        let n = match from.read(&mut file[at..]) {
+            Ok(n) => n,
+            Err(_) => {
+                return Input {
+                    bytes: 0,
+                    failed: true,
+                };
+            }
+        };
         if n == 0 {
             break;
         }

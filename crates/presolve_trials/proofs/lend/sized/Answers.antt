@@ -1,6 +1,6 @@
 -- `sized`: 0 / 0 is not a number.
-use mathlib.Core.Path.{refl}
-use lib.Ieee.{of_bits, div}
+use Rattle.std.specs.Prelude.{refl}
+use Rattle.std.specs.Float.Ieee.{of_bits, div}
 use Rattle.presolve_trials.proofs.lend.sized.Goals as goal
 
 pub returns : goal.returns
