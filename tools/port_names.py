@@ -3,7 +3,7 @@
 
 usage: tools/port_names.py [ROOT]
 
-Run once, after /opt/rattle/port/port.py. Each line of the table is: old name, new name, and `*` or the files that it is about.
+Run once, after the port.py of the newer toolchain. Each line of the table is: old name, new name, and `*` or the files that it is about.
 A name that a file takes from the library keeps its spelling there, a file of a function's proof keeps the names that it declares
 itself (they are names of goals), and text in quotes keeps every word.
 """
