@@ -7,6 +7,5 @@ pub mod Front
 pub mod Fitting
 pub mod Numbers
 pub mod Refusals
-pub mod Enough
 pub mod Variables
 pub mod TextFits

@@ -1,0 +1,2 @@
+-- The theorems, each file named as the definitions that it is about.
+pub mod Enough
