@@ -6,7 +6,7 @@
 
 Order and comments are crates.txt's own; a new crate is a line `NAME:` in its place, a static library a line `NAME staticlib:`. A
 crate may use only crates above it. What it uses is read from its text: NAME of `Rattle.NAME.` in any file of src, specs and proofs,
-and of `NAME::` in src where the crate has no module NAME; besides, what UNNAMED has. std is always there and never listed.
+and of `NAME::` in src where the crate has no module NAME. std is always there and never listed.
 """
 import os
 import re
@@ -14,8 +14,6 @@ import sys
 
 ROOT = os.path.dirname(os.path.dirname(os.path.abspath(__file__)))
 LIST = os.path.join(ROOT, "crates.txt")
-# Crates that declare the type of a value that a crate reaches without naming it: the kit asks for them by that reason.
-UNNAMED = {"presolve_trials": ["output"]}
 
 
 def texts(crate, folder, ends):
@@ -35,7 +33,6 @@ def used(crate, names):
     own = {m for text in code for m in re.findall(r"^ *(?:pub(?:\(crate\))? )?mod ([a-z0-9_]+);", text, re.M)}
     for text in code:
         found.update(m for m in re.findall(r"\b([a-z0-9_]+)::", text) if m not in own)
-    found.update(UNNAMED.get(crate, []))
     return found & names - {crate}
 
 

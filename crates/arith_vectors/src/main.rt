@@ -3,9 +3,9 @@
 // tools/arith_vectors.py, and not from a run of this program.
 #![tactic(auto)]
 
+mod bits;
 mod doubles;
 mod helpers;
-mod print;
 mod rows;
 
 use std::io;

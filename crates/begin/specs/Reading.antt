@@ -12,19 +12,19 @@ use Rattle.std.proofs.Math.ListN.{length, get_or, take, length-append, get_or-ap
 use Rattle.std.proofs.lemmas.List.{get_or_at}
 use Rattle.std.proofs.Math.Seq.{get_or-set_same, take-suc-set}
 use Rattle.tolerances.specs.Tol.{at, trivial_verdict}
-use Rattle.tolerances.specs.Answers.{verdict_of}
-use Rattle.tolerances.specs.declared.Verdict.{Verdict}
-use Rattle.tolerances.specs.declared.Verdict.TheVariants.{Holds, Fails, Open}
+use Rattle.std.specs.Prelude as std
+use Rattle.std.specs.Prelude.{Some, None, Ok, Err}
+use Rattle.tolerances.specs.Answers.{option_of}
+use Rattle.definition.specs.declared.Infeasible.{Infeasible}
+use Rattle.definition.specs.declared.Rows as lent
 use Rattle.definition.specs.Model.{Model, from, upto, nnz, op_of, rhs_of, Row, with_alive, as_written, counts}
 use Rattle.definition.specs.Work.{no_row}
 use Rattle.definition.specs.Begin.{Rows, false_row, rows_are, add_row, read_row, read_from}
 use Rattle.space.specs.declared.Shape.{Shape}
-use Rattle.space.specs.declared.Step as code
-use Rattle.space.specs.declared.Step.TheVariants.{Stop, Next}
 use Rattle.space.specs.Store.{Floats, Numbers, numbers_of, HoldsN, put_queued, put_dropped, put_tightened, put_fixed, put_rewrote, put_passes, put_alive, put_dirty, put_coeff_dirty, put_queue}
 use Rattle.space.specs.Blocks.{queued_length, dropped_length, tightened_length, fixed_length, rewrote_length, passes_length, dirty_length, coeff_dirty_length, queue_length, alive_length}
 use Rattle.view.specs.Call.{Call}
-use Rattle.view.specs.Shows.{is_one, Tally, Counted, tally_of, parts_of, RowShown}
+use Rattle.view.specs.Shows.{is_one, Tally, Counted, tally_of, parts_of, RowShown, Outcome}
 use Rattle.view.specs.Inv.{RowInv, Below, marked}
 use Rattle.view.specs.Lists.{one_is, zero_is, marked_le, below_add, count_mod}
 use Rattle.view.specs.Rows.{same?, OneRow}
@@ -57,6 +57,12 @@ pub record RowsLong (s : Shape) (n : Numbers) : Type 0 where
   pub coeff_dirty : length n.coeff_dirty ≡ s.rows
   pub queue : length n.queue ≡ s.rows
   pub alive : length n.alive ≡ s.rows
+
+-- n is cleared
+pub record Cleared (s : Shape) (n : Numbers) : Type 0 where
+  pub before : Numbers
+  pub long : RowsLong s before
+  pub is : n ≡ cleared before
 
 -- ---- what the slices show of the rows below r
 pub record Front (M : Model) (r : ℕ) (f : Floats) (n : Numbers) (rows : List Row) (queue : List ℕ) (dirty : List Bool) (drops : ℕ) : Type 0 where
@@ -167,12 +173,12 @@ module _ {M : Model} {s : Shape} {r : ℕ} {f : Floats} {n : Numbers} {rows : Li
       })
 
 -- ---- the rows below r, read: one failed, or all are shown
-pub data RowsShown (M : Model) (r : ℕ) (f : Floats) (n : Numbers) : code.Step → Rows → Type 0 where
-  failed : {k : ℕ} → Counted (tally_of n) (counts k 0 0 0 0) → RowsShown M r f n Stop (false_row k)
-  shown : {rows : List Row} {queue : List ℕ} {dirty : List Bool} {drops : ℕ} → Front M r f n rows queue dirty drops → RowsShown M r f n Next (rows_are rows queue dirty drops)
+pub data RowsShown (M : Model) (r : ℕ) (f : Floats) (n : Numbers) : Outcome → Rows → Type 0 where
+  failed : {e : Infeasible} {k : ℕ} → Counted (tally_of n) (counts k 0 0 0 0) → RowsShown M r f n (Err e) (false_row k)
+  shown : {rows : List Row} {queue : List ℕ} {dirty : List Bool} {drops : ℕ} → Front M r f n rows queue dirty drops → RowsShown M r f n (Ok tt) (rows_are rows queue dirty drops)
 
 -- no row is read yet
-no_rows : {M : Model} {s : Shape} {f : Floats} {n n' : Numbers} → RowsLong s n → n' ≡ cleared n → RowsShown M 0 f n' Next (rows_are [] [] [] 0)
+no_rows : {M : Model} {s : Shape} {f : Floats} {n n' : Numbers} → RowsLong s n → n' ≡ cleared n → RowsShown M 0 f n' (Ok tt) (rows_are [] [] [] 0)
 unfolding marked
 no_rows {n = n} b e =
     let z : get_or (set n.queued 0 0) 0 0 ≡ 0 = get_or-set_same n.queued 0 0 0 (omega (arith, b.queued)) in
@@ -214,8 +220,8 @@ then_bounds : {f f₁ f₂ : Floats} → SameBounds f f₁ → SameBounds f₁ f
 then_bounds a b = record { wlo = b.wlo ∙ a.wlo; whi = b.whi ∙ a.whi; elo = b.elo ∙ a.elo; ehi = b.ehi ∙ a.ehi }
 
 -- row r is read
-pub record ReadsOne (P : Model → Type 0) (s : Shape) (r : ℕ) (f : Floats) (n : Numbers) (f' : Floats) (n' : Numbers) (z : code.Step) : Type 0 where
-  pub does : (M : Model) (x : Rows) → P M → Call M s → RowsShown M r f n Next x → RowsShown M (suc r) f' n' z (read_row M r x)
+pub record ReadsOne (P : Model → Type 0) (s : Shape) (r : ℕ) (f : Floats) (n : Numbers) (f' : Floats) (n' : Numbers) (z : Outcome) : Type 0 where
+  pub does : (M : Model) (x : Rows) → P M → Call M s → RowsShown M r f n (Ok tt) x → RowsShown M (suc r) f' n' z (read_row M r x)
   pub bounds : (M : Model) → P M → Call M s → SameBounds f f'
 
 -- a row's verdict, by the slices of the call
@@ -227,24 +233,24 @@ pub verdict_is : {ss os : List ℕ} {bs : List Float} {s : Shape} (r : ℕ) (M :
 unfolding op_of rhs_of nnz from upto
 verdict_is r M es eo eb c = rw (es, eo, eb, ← c.feas)
 
-module _ {ss is : List ℕ} {cs : List Float} {os : List ℕ} {bs : List Float} {s : Shape} {r : ℕ} where
-  module _ {f : Floats} {n : Numbers} (p : r < s.rows) (b : RowsLong s n) {z : Verdict} (t : verdict_of z ≡ verdict_at s ss os bs r) where
-    pub read_skip : {n' : Numbers} → z ≡ Holds → n' ≡ skipped r n → ReadsOne (Written ss is cs os bs) s r f n f n' Next
+module _ {rows : lent.Rows} {s : Shape} {r : ℕ} where
+  module _ {f : Floats} {n : Numbers} (p : r < s.rows) (b : RowsLong s n) {z : std.Option Bool} (t : option_of z ≡ verdict_at s rows.starts.now rows.cmp.now rows.rhs.now r) where
+    pub read_skip : {n' : Numbers} → z ≡ Some true → n' ≡ skipped r n → ReadsOne (Written rows) s r f n f n' (Ok tt)
     unfolding read_row add_row
     read_skip {n'} e g = record { does = λ M x k c h. go M k c h; bounds = λ M k c. same_bounds_lem }
       where
-        go : (M : Model) {x : Rows} → Written ss is cs os bs M → Call M s → RowsShown M r f n Next x → RowsShown M (suc r) f n' Next (read_row M r x)
+        go : (M : Model) {x : Rows} → Written rows M → Call M s → RowsShown M r f n (Ok tt) x → RowsShown M (suc r) f n' (Ok tt) (read_row M r x)
         go M k c (shown h) = rw (verdict_is r M k.starts k.cmp k.rhs c, ← t, e) (shown (front_skip c h p b g))
 
-    pub read_fail : z ≡ Fails → ReadsOne (Written ss is cs os bs) s r f n f n Stop
+    pub read_fail : {u : Infeasible} → z ≡ Some false → ReadsOne (Written rows) s r f n f n (Err u)
     unfolding read_row add_row
-    read_fail e = record { does = λ M x k c h. go M k c h; bounds = λ M k c. same_bounds_lem }
+    read_fail {u} e = record { does = λ M x k c h. go M k c h; bounds = λ M k c. same_bounds_lem }
       where
-        go : (M : Model) {x : Rows} → Written ss is cs os bs M → Call M s → RowsShown M r f n Next x → RowsShown M (suc r) f n Stop (read_row M r x)
+        go : (M : Model) {x : Rows} → Written rows M → Call M s → RowsShown M r f n (Ok tt) x → RowsShown M (suc r) f n (Err u) (read_row M r x)
         go M k c (shown h) = rw (verdict_is r M k.starts k.cmp k.rhs c, ← t, e) (failed h.counted)
 
-    pub read_add : {f₁ : Floats} {n₁ n₂ : Numbers} → z ≡ Open → ((M : Model) → Written ss is cs os bs M → Call M s → OneRow M r (as_written M r) f n f₁ n₁)
-        → n₂ ≡ joined r n₁ → ReadsOne (Written ss is cs os bs) s r f n f₁ n₂ Next
+    pub read_add : {f₁ : Floats} {n₁ n₂ : Numbers} → z ≡ None → ((M : Model) → Written rows M → Call M s → OneRow M r (as_written M r) f n f₁ n₁)
+        → n₂ ≡ joined r n₁ → ReadsOne (Written rows) s r f n f₁ n₂ (Ok tt)
     unfolding read_row add_row
     read_add {f₁} {n₁} {n₂} e o g =
         record {
@@ -252,7 +258,7 @@ module _ {ss is : List ℕ} {cs : List Float} {os : List ℕ} {bs : List Float} 
           bounds = λ M k c. let d = o M k c in record { wlo = d.wlo; whi = d.whi; elo = d.elo; ehi = d.ehi };
         }
       where
-        go : (M : Model) {x : Rows} → Written ss is cs os bs M → Call M s → RowsShown M r f n Next x → RowsShown M (suc r) f₁ n₂ Next (read_row M r x)
+        go : (M : Model) {x : Rows} → Written rows M → Call M s → RowsShown M r f n (Ok tt) x → RowsShown M (suc r) f₁ n₂ (Ok tt) (read_row M r x)
         go M k c (shown h) = rw (verdict_is r M k.starts k.cmp k.rhs c, ← t, e) (shown (front_add c h p b (o M k c) g))
 
 -- ---- read_rows
@@ -263,7 +269,7 @@ all_rows M = read_from M (length M.rhs) 0 (rows_are [] [] [] 0)
 pub record Sofar (M : Model) (r : ℕ) (f : Floats) (n : Numbers) : Type 0 where
   pub got : Rows
   pub rest : read_from M (length M.rhs - r) r got ≡ all_rows M
-  pub shown : RowsShown M r f n Next got
+  pub shown : RowsShown M r f n (Ok tt) got
 
 pub record ReadInv (P : Model → Type 0) (s : Shape) (r : ℕ) (f₀ : Floats) (f : Floats) (n : Numbers) : Type 0 where
   pub upto : r ≤ s.rows
@@ -271,7 +277,7 @@ pub record ReadInv (P : Model → Type 0) (s : Shape) (r : ℕ) (f₀ : Floats) 
   pub bounds : (M : Model) → P M → Call M s → SameBounds f₀ f
 
 -- all rows: one fails, and the counts are the definition's; or the slices show all, and the bounds are what they were
-pub record RowsRead (P : Model → Type 0) (s : Shape) (f : Floats) (f' : Floats) (n' : Numbers) (z : code.Step) : Type 0 where
+pub record RowsRead (P : Model → Type 0) (s : Shape) (f : Floats) (f' : Floats) (n' : Numbers) (z : Outcome) : Type 0 where
   pub reads : (M : Model) → P M → Call M s → RowsShown M (length M.rhs) f' n' z (all_rows M)
   pub bounds : (M : Model) → P M → Call M s → SameBounds f f'
 
@@ -284,15 +290,15 @@ read_one : (M : Model) (n r : ℕ) (x : Rows) → r < n → read_from M (n - r) 
 unfolding read_from
 read_one M n r x p = let e : n - r ≡ suc (n - suc r) = omega arith in rw e
 
-stays : {M : Model} {r q : ℕ} {f : Floats} {n : Numbers} {x : Rows} (m : ℕ) → RowsShown M r f n Stop x → RowsShown M q f n Stop (read_from M m r x)
+stays : {M : Model} {r q : ℕ} {f : Floats} {n : Numbers} {u : Infeasible} {x : Rows} (m : ℕ) → RowsShown M r f n (Err u) x → RowsShown M q f n (Err u) (read_from M m r x)
 stays {M} {r} m (failed {k} h) = rw (read_false M m r k) (failed h)
 
 module _ {P : Model → Type 0} {s : Shape} where
-  pub read_start : {f : Floats} {n n' : Numbers} → RowsLong s n → n' ≡ cleared n → ReadInv P s 0 f f n'
-  read_start b e =
+  pub read_start : {f : Floats} {n : Numbers} → Cleared s n → ReadInv P s 0 f f n
+  read_start z =
       record {
         upto = omega arith;
-        reads = λ M k c. let z : length M.rhs - 0 ≡ length M.rhs = omega arith in record { got = rows_are [] [] [] 0; rest = rw z; shown = no_rows b e };
+        reads = λ M k c. let y : length M.rhs - 0 ≡ length M.rhs = omega arith in record { got = rows_are [] [] [] 0; rest = rw y; shown = no_rows z.long z.is };
         bounds = λ M k c. same_bounds_lem;
       }
 
@@ -301,16 +307,16 @@ module _ {P : Model → Type 0} {s : Shape} where
     pub read_room : (M : Model) → P M → Call M s → get_or n.queued 0 0 ≤ r
     read_room M k c = go (i.reads M k c).shown
       where
-        go : {x : Rows} → RowsShown M r f n Next x → get_or n.queued 0 0 ≤ r
+        go : {x : Rows} → RowsShown M r f n (Ok tt) x → get_or n.queued 0 0 ≤ r
         go (shown {dirty = d} h) = let z = marked_le d in omega (arith, z, h.queued, h.room, h.dirties)
 
-    read_more : {f' : Floats} {n' : Numbers} {z : code.Step} → r < s.rows → ReadsOne P s r f n f' n' z → (M : Model) (k : P M) (c : Call M s)
+    read_more : {f' : Floats} {n' : Numbers} {z : Outcome} → r < s.rows → ReadsOne P s r f n f' n' z → (M : Model) (k : P M) (c : Call M s)
         → RowsShown M (suc r) f' n' z (read_row M r (i.reads M k c).got) × (read_from M (length M.rhs - suc r) (suc r) (read_row M r (i.reads M k c).got) ≡ all_rows M)
     read_more p g M k c =
         let x = i.reads M k c in
         (g.does M x.got k c x.shown, sym (read_one M (length M.rhs) r x.got (omega (arith, p, c.rows))) ∙ x.rest)
 
-    pub read_turn : {f' : Floats} {n' : Numbers} {z : code.Step} → r < s.rows → ReadsOne P s r f n f' n' z → z ≡ Next → ReadInv P s (r + 1) f₀ f' n'
+    pub read_turn : {f' : Floats} {n' : Numbers} {z : Outcome} → r < s.rows → ReadsOne P s r f n f' n' z → z ≡ Ok tt → ReadInv P s (r + 1) f₀ f' n'
     read_turn p g e =
         rw add-one
         (record {
@@ -319,14 +325,14 @@ module _ {P : Model → Type 0} {s : Shape} where
           bounds = λ M k c. then_bounds (i.bounds M k c) (g.bounds M k c);
         })
 
-    pub read_stop : {f' : Floats} {n' : Numbers} {z : code.Step} → r < s.rows → ReadsOne P s r f n f' n' z → z ≡ Stop → RowsRead P s f₀ f' n' Stop
-    read_stop {f'} {n'} p g e =
+    pub read_stop : {f' : Floats} {n' : Numbers} {z : Outcome} {u : Infeasible} → r < s.rows → ReadsOne P s r f n f' n' z → z ≡ Err u → RowsRead P s f₀ f' n' (Err u)
+    read_stop {f'} {n'} {u = u} p g e =
         record {
-          reads = λ M k c. let y = read_more p g M k c in subst (λ (x : Rows). RowsShown M (length M.rhs) f' n' Stop x) y.1 (stays (length M.rhs - suc r) (rw e at y.0));
+          reads = λ M k c. let y = read_more p g M k c in subst (λ (x : Rows). RowsShown M (length M.rhs) f' n' (Err u) x) y.1 (stays (length M.rhs - suc r) (rw e at y.0));
           bounds = λ M k c. then_bounds (i.bounds M k c) (g.bounds M k c);
         }
 
-    pub read_end : s.rows ≤ r → RowsRead P s f₀ f n Next
+    pub read_end : s.rows ≤ r → RowsRead P s f₀ f n (Ok tt)
     unfolding read_from
     read_end p =
         record {
@@ -335,7 +341,7 @@ module _ {P : Model → Type 0} {s : Shape} where
               let z : length M.rhs - r ≡ 0 = omega arith in
               let x = i.reads M k c in
               let y : x.got ≡ all_rows M = sym (ap (λ (j : ℕ). read_from M j r x.got) z) ∙ x.rest in
-              subst (λ (j : ℕ). RowsShown M j f n Next (all_rows M)) q (subst (λ (t : Rows). RowsShown M r f n Next t) y x.shown);
+              subst (λ (j : ℕ). RowsShown M j f n (Ok tt) (all_rows M)) q (subst (λ (t : Rows). RowsShown M r f n (Ok tt) t) y x.shown);
           bounds = i.bounds;
         }
 
@@ -353,6 +359,9 @@ rows_long {s} l h =
       queue = queue_length s l h;
       alive = alive_length s l h;
     }
+
+pub cleared_now : {s : Shape} (l : List ℕ) {n : Numbers} → HoldsN s l → n ≡ cleared (numbers_of s l) → Cleared s n
+cleared_now l h e = record { before = _; long = rows_long l h; is = e }
 
 -- there is room for row r once it is written
 pub queue_room : {P : Model → Type 0} {s : Shape} {r : ℕ} {f f₁ : Floats} {n n₁ : Numbers} {X : Model → Row} → Given P s → Writes P s r f n f₁ n₁ X

@@ -10,6 +10,7 @@ use Rattle.std.proofs.lemmas.List.{set_at, get_or_at, set-get_or}
 use Rattle.std.specs.Float.{nan}
 use Rattle.floats.specs.Num.{choose, gt}
 use Rattle.tolerances.specs.Tol.{at}
+use Rattle.definition.specs.declared.Input.{Input}
 use Rattle.definition.specs.Model.{Model, is_int}
 use Rattle.definition.specs.Begin.{Bounds, cross, bounds, rounded_lower, rounded_upper, round_var, round_from}
 use Rattle.space.specs.declared.Shape.{Shape}
@@ -20,11 +21,11 @@ use Rattle.view.specs.Lists.{yes, no}
 use Rattle.readers.specs.Reading.{ReadsM, Domains}
 
 -- what the slices of the call say of the model's bounds
-pub record Limits (ls hs : List Float) (ds : List ℕ) (tol : Float) (M : Model) : Type 0 where
-  pub lower : M.lower ≡ ls
-  pub upper : M.upper ≡ hs
-  pub domain : M.domain ≡ ds
-  pub int_tol : M.int_tol ≡ tol
+pub record Limits (x : Input) (M : Model) : Type 0 where
+  pub lower : M.lower ≡ x.lower.now
+  pub upper : M.upper ≡ x.upper.now
+  pub domain : M.domain ≡ x.domain.now
+  pub int_tol : M.int_tol ≡ x.int_tol
 
 -- ---- round_var: v's bounds are l and h, and low and high after
 abbrev pub put_bounds : ℕ → Float → Float → Floats → Floats
@@ -106,15 +107,15 @@ round_one : (M : Model) (n v : ℕ) (b : Bounds) → v < n → round_from M (n -
 unfolding round_from
 round_one M n v b p = let e : n - v ≡ suc (n - suc v) = omega arith in rw e
 
-pub record RoundInv (ls hs : List Float) (ds : List ℕ) (tol : Float) (s : Shape) (v : ℕ) (f : Floats) : Type 0 where
-  pub upto : v ≤ s.vars
+pub record RoundInv (x : Input) (s : Shape) (v : ℕ) (f : Floats) : Type 0 where
   pub lows : take v f.elo ≡ take v f.wlo
   pub highs : take v f.ehi ≡ take v f.whi
-  pub rest : (M : Model) → Limits ls hs ds tol M → Call M s → round_from M (s.vars - v) v (bounds (joined v f.wlo ls) (joined v f.whi hs)) ≡ round_from M s.vars 0 (bounds ls hs)
+  pub rest : (M : Model) → Limits x M → Call M s
+      → round_from M (s.vars - v) v (bounds (joined v f.wlo x.lower.now) (joined v f.whi x.upper.now)) ≡ round_from M s.vars 0 (bounds x.lower.now x.upper.now)
 
 -- all variables: false where some integer bounds cross, else the four blocks are the definition's bounds
-pub record Rounded (ls hs : List Float) (ds : List ℕ) (tol : Float) (s : Shape) (f : Floats) (z : Bool) : Type 0 where
-  pub is : (M : Model) → Limits ls hs ds tol M → Call M s → round_from M (length M.lower) 0 (bounds M.lower M.upper) ≡ choose z (bounds f.wlo f.whi) cross
+pub record Rounded (x : Input) (s : Shape) (f : Floats) (z : Bool) : Type 0 where
+  pub is : (M : Model) → Limits x M → Call M s → round_from M (length M.lower) 0 (bounds M.lower M.upper) ≡ choose z (bounds f.wlo f.whi) cross
   pub elo : z ≡ true → f.elo ≡ f.wlo
   pub ehi : z ≡ true → f.ehi ≡ f.whi
 
@@ -124,16 +125,21 @@ pub record FourLong (s : Shape) (f : Floats) : Type 0 where
   pub elo : length f.elo ≡ s.vars
   pub ehi : length f.ehi ≡ s.vars
 
-whole : {ls hs : List Float} {ds : List ℕ} {tol : Float} {s : Shape} (M : Model) → Limits ls hs ds tol M → Call M s
-    → round_from M (length M.lower) 0 (bounds M.lower M.upper) ≡ round_from M s.vars 0 (bounds ls hs)
+whole : {x : Input} {s : Shape} (M : Model) → Limits x M → Call M s
+    → round_from M (length M.lower) 0 (bounds M.lower M.upper) ≡ round_from M s.vars 0 (bounds x.lower.now x.upper.now)
 whole M k c = rw (← c.vars, k.lower, k.upper)
 
-pub round_start : {ls hs : List Float} {ds : List ℕ} {tol : Float} {s : Shape} {f : Floats} → RoundInv ls hs ds tol s 0 f
-round_start {s = s} = let z : s.vars - 0 ≡ s.vars = omega arith in record { upto = omega arith; lows = refl; highs = refl; rest = λ M k c. rw z }
+pub round_start : {x : Input} {s : Shape} {f : Floats} → RoundInv x s 0 f
+round_start {s = s} = let z : s.vars - 0 ≡ s.vars = omega arith in record { lows = refl; highs = refl; rest = λ M k c. rw z }
 
-module _ {ls hs : List Float} {ds : List ℕ} {tol : Float} {s : Shape} {v : ℕ} {f : Floats} (i : RoundInv ls hs ds tol s v f) (b : FourLong s f)
-    (el : length ls ≡ s.vars) (eh : length hs ≡ s.vars) where
-  turn_is : {f' : Floats} {z : Bool} → v < s.vars → (g : VarRounded ds s tol v (at ls v) (at hs v) f f' z) (M : Model) → Limits ls hs ds tol M → Call M s
+module _ {x : Input} {s : Shape} {v : ℕ} {f : Floats} (i : RoundInv x s v f) (b : FourLong s f) (el : length x.lower.now ≡ s.vars) (eh : length x.upper.now ≡ s.vars) where
+  abbrev ls : List Float
+  ls = x.lower.now
+
+  abbrev hs : List Float
+  hs = x.upper.now
+
+  turn_is : {f' : Floats} {z : Bool} → v < s.vars → (g : VarRounded x.domain.now s x.int_tol v (at ls v) (at hs v) f f' z) (M : Model) → Limits x M → Call M s
       → round_from M s.vars 0 (bounds ls hs) ≡ round_from M (s.vars - suc v) (suc v) (choose z (bounds (set (joined v f.wlo ls) v g.low) (set (joined v f.whi hs) v g.high)) cross)
   turn_is p g M k c =
       sym (i.rest M k c) ∙ round_one M s.vars v _ p
@@ -142,7 +148,7 @@ module _ {ls hs : List Float} {ds : List ℕ} {tol : Float} {s : Shape} {v : ℕ
       (joined_at v f.wlo ls (omega (arith, p, b.wlo)) (omega (arith, p, el)))
       (joined_at v f.whi hs (omega (arith, p, b.whi)) (omega (arith, p, eh))))
 
-  pub round_stop : {f' f'' : Floats} {z : Bool} → v < s.vars → VarRounded ds s tol v (at ls v) (at hs v) f f' z → z ≡ false → Rounded ls hs ds tol s f'' false
+  pub round_stop : {f' f'' : Floats} {z : Bool} → v < s.vars → VarRounded x.domain.now s x.int_tol v (at ls v) (at hs v) f f' z → z ≡ false → Rounded x s f'' false
   unfolding choose
   round_stop p g e =
       record {
@@ -151,28 +157,26 @@ module _ {ls hs : List Float} {ds : List ℕ} {tol : Float} {s : Shape} {v : ℕ
         ehi = λ t. absurd (let z : ◌≡◌ {A = ℕ} 0 1 = cc in omega arith);
       }
 
-  pub round_turn : {f' : Floats} {z : Bool} → v < s.vars → VarRounded ds s tol v (at ls v) (at hs v) f f' z → z ≡ true → RoundInv ls hs ds tol s (v + 1) f'
+  pub round_turn : {f' : Floats} {z : Bool} → v < s.vars → VarRounded x.domain.now s x.int_tol v (at ls v) (at hs v) f f' z → z ≡ true → RoundInv x s (v + 1) f'
   round_turn {f'} p g e =
-      let x : f' ≡ put_bounds v g.low g.high f = g.stored e in
+      let y : f' ≡ put_bounds v g.low g.high f = g.stored e in
       let vw : v < length f.wlo = omega (arith, p, b.wlo) in
       let vh : v < length f.whi = omega (arith, p, b.whi) in
       let vl : v < length f.elo = omega (arith, p, b.elo) in
       let ve : v < length f.ehi = omega (arith, p, b.ehi) in
       let ql : v < length ls = omega (arith, p, el) in
       let qh : v < length hs = omega (arith, p, eh) in
-      rw (x, add-one)
+      rw (y, add-one)
       (record {
-        upto = omega (arith, p);
         lows = take-suc-set f.elo v g.low vl ∙ ap (λ (t : List Float). t ++ (g.low ∷ [])) i.lows ∙ sym (take-suc-set f.wlo v g.low vw);
         highs = take-suc-set f.ehi v g.high ve ∙ ap (λ (t : List Float). t ++ (g.high ∷ [])) i.highs ∙ sym (take-suc-set f.whi v g.high vh);
         rest = λ M k c.
             sym (turn_is p g M k c ∙ ap (round_from M (s.vars - suc v) (suc v)) (yes _ _ e ∙ rw (joined_set v f.wlo ls g.low vw ql, joined_set v f.whi hs g.high vh qh)));
       })
 
-  pub round_end : s.vars ≤ v → Rounded ls hs ds tol s f true
+  pub round_end : v ≡ s.vars → Rounded x s f true
   unfolding choose round_from
-  round_end p =
-      let q : v ≡ s.vars = omega (arith, p, i.upto) in
+  round_end q =
       let z : s.vars - s.vars ≡ 0 = omega arith in
       record {
         is = λ M k c. whole M k c ∙ sym (i.rest M k c) ∙ rw (q, z, joined_all s.vars f.wlo ls b.wlo el, joined_all s.vars f.whi hs b.whi eh);

@@ -1,27 +1,26 @@
 -- The start of presolve, whole: the call ends there, with the definition's counts, or the slices show the state that the rounds start from.
-use Rattle.std.specs.Prelude.{ℕ, ◌≡◌, refl, Bool, true, false, List, map, length, Float}
+use Rattle.std.specs.Prelude.{ℕ, ◌≡◌, refl, Bool, true, false, List, map, length, Float, Ok, Err}
 use Rattle.std.proofs.Common.{arith, ap, sym, ◌∙◌, take_all, get_or-set_same}
 use Rattle.definition.specs.declared.Counts.{Counts}
+use Rattle.definition.specs.declared.Infeasible.{Infeasible}
+use Rattle.definition.specs.declared.Input.{Input}
 use Rattle.definition.specs.Model.{Model, Row, counts, Answer, infeasible}
 use Rattle.definition.specs.Work.{Work}
 use Rattle.definition.specs.Begin.{crossed, cross, bounds, Rows, round_from}
 use Rattle.definition.specs.Rounds.{rounds}
 use Rattle.definition.specs.Presolve.{finish, start, after_rounding, presolve}
 use Rattle.space.specs.declared.Shape.{Shape}
-use Rattle.space.specs.declared.Step as code
-use Rattle.space.specs.declared.Step.TheVariants.{Stop, Next}
 use Rattle.space.specs.Store.{Floats, Numbers}
 use Rattle.view.specs.Call.{Call}
-use Rattle.view.specs.Shows.{is_one, Shows, Counted, tally_of}
+use Rattle.view.specs.Shows.{is_one, Shows, Counted, tally_of, Outcome}
 use Rattle.view.specs.Inv.{Inv}
 use Rattle.view.specs.Known.{Written}
 use Rattle.view.specs.Lists.{yes, no}
 use Rattle.view.specs.Adjacency.{Adjacency}
 use Rattle.folds.specs.Written.{Given}
 use Rattle.begin.specs.Rounding.{Limits, Rounded, FourLong}
-use Rattle.begin.specs.AtWork.{Placed}
 use Rattle.begin.specs.Placing.{Adjoined}
-use Rattle.begin.specs.Reading.{cleared, RowsLong, Front, RowsShown, failed, shown, SameBounds, all_rows, RowsRead}
+use Rattle.begin.specs.Reading.{RowsLong, Cleared, Front, RowsShown, failed, shown, SameBounds, all_rows, RowsRead}
 
 -- the state that the rounds start from
 abbrev pub begun : List Float → List Float → List Row → List ℕ → List Bool → ℕ → Work
@@ -62,38 +61,32 @@ module _ {M : Model} {s : Shape} {f : Floats} {n : Numbers} {rows : List Row} {q
       }
 
 -- what presolve answers: the counts are shown, or the state that it goes on with
-pub data Begun (M : Model) (f : Floats) (n : Numbers) : code.Step → Answer → Type 0 where
-  ended : {k : Counts} → Counted (tally_of n) k → Begun M f n Stop (infeasible k)
-  begins : {w : Work} → Shows M f n n.wave w → Inv M 0 w → Begun M f n Next (finish M (rounds M M.params.max_rounds w))
+pub data Begun (M : Model) (f : Floats) (n : Numbers) : Outcome → Answer → Type 0 where
+  ended : {e : Infeasible} {k : Counts} → Counted (tally_of n) k → Begun M f n (Err e) (infeasible k)
+  begins : {w : Work} → Shows M f n n.wave w → Inv M 0 w → Begun M f n (Ok tt) (finish M (rounds M M.params.max_rounds w))
 
 -- what the slices of the call say of the model
-pub record Handed (ls hs : List Float) (ds : List ℕ) (tol : Float) (ss is : List ℕ) (cs : List Float) (os : List ℕ) (bs : List Float) (M : Model) : Type 0 where
-  pub limits : Limits ls hs ds tol M
-  pub written : Written ss is cs os bs M
+pub record Handed (x : Input) (M : Model) : Type 0 where
+  pub limits : Limits x M
+  pub written : Written x.rows M
 
-pub record Begins (P : Model → Type 0) (s : Shape) (f : Floats) (n : Numbers) (adj : List ℕ) (z : code.Step) : Type 0 where
+pub record Begins (P : Model → Type 0) (s : Shape) (f : Floats) (n : Numbers) (adj : List ℕ) (z : Outcome) : Type 0 where
   pub does : (M : Model) → P M → Call M s → Begun M f n z (presolve M)
-  pub adjacency : z ≡ Next → (M : Model) → P M → Call M s → Adjacency M adj
-
-pub written_placed : {ss is : List ℕ} {cs : List Float} {os : List ℕ} {bs : List Float} (M : Model) → Written ss is cs os bs M → Placed ss is os bs M
-written_placed M k = record { starts = k.starts; index = k.index; cmp = k.cmp; rhs = k.rhs }
+  pub adjacency : z ≡ Ok tt → (M : Model) → P M → Call M s → Adjacency M adj
 
 -- ---- what the slices hold
-module _ {ls hs : List Float} {ds : List ℕ} {tol : Float} {ss is : List ℕ} {cs : List Float} {os : List ℕ} {bs : List Float} {s : Shape} (G : Given (Handed ls hs ds tol ss is cs os bs) s) where
-  pub lower_long : length ls ≡ s.vars
+module _ {x : Input} {s : Shape} (G : Given (Handed x) s) where
+  pub lower_long : length x.lower.now ≡ s.vars
   lower_long = omega (arith, ap length G.known.limits.lower, G.call.vars)
 
-  pub upper_long : length hs ≡ s.vars
+  pub upper_long : length x.upper.now ≡ s.vars
   upper_long = omega (arith, ap length G.known.limits.upper, G.call.uppers, G.call.vars)
 
-  pub domain_long : length ds ≡ s.vars
+  pub domain_long : length x.domain.now ≡ s.vars
   domain_long = omega (arith, ap length G.known.limits.domain, G.call.domains, G.call.vars)
 
-  pub given_written : Given (Written ss is cs os bs) s
+  pub given_written : Given (Written x.rows) s
   given_written = record { model = G.model; known = G.known.written; call = G.call }
-
-  pub given_placed : Given (Placed ss is os bs) s
-  given_placed = record { model = G.model; known = written_placed G.model G.known.written; call = G.call }
 
 -- ---- the definition, by its ways
 pub ends_crossed : (M : Model) → crossed M.lower M.upper ≡ true → presolve M ≡ infeasible (counts 0 0 0 0 0)
@@ -109,49 +102,50 @@ pub goes_on : (M : Model) {ls hs : List Float} → crossed M.lower M.upper ≡ f
 unfolding presolve after_rounding
 goes_on M e r = no _ _ e ∙ rw r
 
-zeros : {s : Shape} {n n' : Numbers} → RowsLong s n → n' ≡ cleared n → Counted (tally_of n') (counts 0 0 0 0 0)
-zeros {n = n} b e =
-    rw e
+zeros : {s : Shape} {n : Numbers} → Cleared s n → Counted (tally_of n) (counts 0 0 0 0 0)
+zeros z =
+    let n = z.before in
+    rw (z.is)
     (record {
-      dropped = get_or-set_same n.dropped 0 0 0 (omega (arith, b.dropped));
-      tightened = get_or-set_same n.tightened 0 0 0 (omega (arith, b.tightened));
-      fixed = get_or-set_same n.fixed 0 0 0 (omega (arith, b.fixed));
-      rewrote = get_or-set_same n.rewrote 0 0 0 (omega (arith, b.rewrote));
-      passes = get_or-set_same n.passes 0 0 0 (omega (arith, b.passes));
+      dropped = get_or-set_same n.dropped 0 0 0 (omega (arith, z.long.dropped));
+      tightened = get_or-set_same n.tightened 0 0 0 (omega (arith, z.long.tightened));
+      fixed = get_or-set_same n.fixed 0 0 0 (omega (arith, z.long.fixed));
+      rewrote = get_or-set_same n.rewrote 0 0 0 (omega (arith, z.long.rewrote));
+      passes = get_or-set_same n.passes 0 0 0 (omega (arith, z.long.passes));
     })
 
-crossed_is : {ls hs : List Float} {ds : List ℕ} {tol : Float} {y b : Bool} (M : Model) → y ≡ crossed ls hs → Limits ls hs ds tol M → y ≡ b → crossed M.lower M.upper ≡ b
+crossed_is : {x : Input} {y b : Bool} (M : Model) → y ≡ crossed x.lower.now x.upper.now → Limits x M → y ≡ b → crossed M.lower M.upper ≡ b
 crossed_is M ec k e = rw (k.lower, k.upper) (sym ec ∙ e)
 
-module _ {ls hs : List Float} {ds : List ℕ} {tol : Float} {ss is : List ℕ} {cs : List Float} {os : List ℕ} {bs : List Float} {s : Shape} {adj : List ℕ} {y : Bool} (ec : y ≡ crossed ls hs) where
-  pub begin_crossed : {f : Floats} {n n' : Numbers} → y ≡ true → RowsLong s n → n' ≡ cleared n → Begins (Handed ls hs ds tol ss is cs os bs) s f n' adj Stop
-  begin_crossed e b g =
+module _ {x : Input} {s : Shape} {n : Numbers} {adj : List ℕ} {y : Bool} (ec : y ≡ crossed x.lower.now x.upper.now) (b : Cleared s n) where
+  pub begin_crossed : {f : Floats} {u : Infeasible} → y ≡ true → Begins (Handed x) s f n adj (Err u)
+  begin_crossed e =
       record {
-        does = λ M k c. rw (ends_crossed M (crossed_is M ec k.limits e)) (ended (zeros b g));
+        does = λ M k c. rw (ends_crossed M (crossed_is M ec k.limits e)) (ended (zeros b));
         adjacency = λ t. absurd (let z : ◌≡◌ {A = ℕ} 0 1 = cc in omega arith);
       }
 
-  module _ {f : Floats} {z : Bool} (e : y ≡ false) (r : Rounded ls hs ds tol s f z) where
-    pub begin_cross : {f' : Floats} {n n' : Numbers} → z ≡ false → RowsLong s n → n' ≡ cleared n → Begins (Handed ls hs ds tol ss is cs os bs) s f' n' adj Stop
-    begin_cross g b t =
+  module _ {f : Floats} {z : Bool} (e : y ≡ false) (r : Rounded x s f z) where
+    pub begin_cross : {f' : Floats} {u : Infeasible} → z ≡ false → Begins (Handed x) s f' n adj (Err u)
+    begin_cross g =
         record {
-          does = λ M k c. rw (ends_rounding M (crossed_is M ec k.limits e) (r.is M k.limits c ∙ no _ _ g)) (ended (zeros b t));
-          adjacency = λ q. absurd (let x : ◌≡◌ {A = ℕ} 0 1 = cc in omega arith);
+          does = λ M k c. rw (ends_rounding M (crossed_is M ec k.limits e) (r.is M k.limits c ∙ no _ _ g)) (ended (zeros b));
+          adjacency = λ q. absurd (let t : ◌≡◌ {A = ℕ} 0 1 = cc in omega arith);
         }
 
-    pub begin_rows : {f' : Floats} {n' : Numbers} {u : code.Step} → z ≡ true → FourLong s f → Adjoined (Placed ss is os bs) s adj → RowsRead (Written ss is cs os bs) s f f' n' u → RowsLong s n'
-        → Begins (Handed ls hs ds tol ss is cs os bs) s f' n' adj u
+    pub begin_rows : {f' : Floats} {n' : Numbers} {u : Outcome} → z ≡ true → FourLong s f → Adjoined (Written x.rows) s adj → RowsRead (Written x.rows) s f f' n' u → RowsLong s n'
+        → Begins (Handed x) s f' n' adj u
     unfolding start
-    begin_rows {f'} {n'} {u} g l a t b =
+    begin_rows {f'} {n'} {u} g l a t w =
         record {
           does = λ M k c.
               rw (goes_on M (crossed_is M ec k.limits e) (r.is M k.limits c ∙ yes _ _ g)) (go M c (t.bounds M k.written c) (t.reads M k.written c));
-          adjacency = λ _ M k c. a.does M (written_placed M k.written) c;
+          adjacency = λ _ M k c. a.does M k.written c;
         }
       where
-        go : (M : Model) → Call M s → SameBounds f f' → {v : code.Step} {x : Rows} → RowsShown M (length M.rhs) f' n' v x → Begun M f' n' v (start M f.wlo f.whi x)
+        go : (M : Model) → Call M s → SameBounds f f' → {v : Outcome} {rs : Rows} → RowsShown M (length M.rhs) f' n' v rs → Begun M f' n' v (start M f.wlo f.whi rs)
         go M c q (failed h) = ended h
-        go M c q (shown h) = begins (shows_begun c h b q.wlo q.whi (q.elo ∙ r.elo g) (q.ehi ∙ r.ehi g)) (inv_begun c h l.wlo l.whi)
+        go M c q (shown h) = begins (shows_begun c h w q.wlo q.whi (q.elo ∙ r.elo g) (q.ehi ∙ r.ehi g)) (inv_begun c h l.wlo l.whi)
 
 -- ---- what the next step has of it
 pub record Stopped (M : Model) (n : Numbers) (x : Answer) : Type 0 where
@@ -159,7 +153,7 @@ pub record Stopped (M : Model) (n : Numbers) (x : Answer) : Type 0 where
   pub is : x ≡ infeasible counts
   pub counted : Counted (tally_of n) counts
 
-pub stopped_is : {M : Model} {f : Floats} {n : Numbers} {x : Answer} → Begun M f n Stop x → Stopped M n x
+pub stopped_is : {M : Model} {f : Floats} {n : Numbers} {e : Infeasible} {x : Answer} → Begun M f n (Err e) x → Stopped M n x
 stopped_is (ended {k} h) = record { counts = k; is = refl; counted = h }
 
 pub record Started (M : Model) (f : Floats) (n : Numbers) (x : Answer) : Type 0 where
@@ -168,5 +162,5 @@ pub record Started (M : Model) (f : Floats) (n : Numbers) (x : Answer) : Type 0 
   pub shows : Shows M f n n.wave work
   pub inv : Inv M 0 work
 
-pub started_is : {M : Model} {f : Floats} {n : Numbers} {x : Answer} → Begun M f n Next x → Started M f n x
+pub started_is : {M : Model} {f : Floats} {n : Numbers} {x : Answer} → Begun M f n (Ok tt) x → Started M f n x
 started_is (begins {w} h i) = record { work = w; is = refl; shows = h; inv = i }

@@ -8,37 +8,26 @@ use crate::adjacency::adjacency;
 use crate::crossing::crossed;
 use crate::reading::{clear, read_rows};
 use crate::rounding::round_vars;
-use space::{Shape, Step};
+use definition::{Infeasible, Input};
+use space::Shape;
 
 // = presolve before its rounds: it ends there, or the slices show the state that the rounds start from
 pub fn begin(
-    lower: &[f64],
-    upper: &[f64],
-    domain: &[u8],
-    starts: &[usize],
-    index: &[usize],
-    coeff: &[f64],
-    cmp: &[u8],
-    rhs: &[f64],
+    input: Input,
     adj: &mut [usize],
     w: &mut [f64],
     m: &mut [usize],
     s: Shape,
-    int_tol: f64,
-) -> Step
+) -> Result<(), Infeasible>
     requires holds_f { HoldsF s w.old × HoldsN s m.old × (s.vars + 1 + s.terms ≤ length adj.old) }
-    requires given { Given (Handed lower.now upper.now domain.now int_tol starts.now index.now coeff.now cmp.now rhs.now) s }
-    ensures { Begins (Handed lower.now upper.now domain.now int_tol starts.now index.now
-        coeff.now cmp.now rhs.now) s (floats_of s w.new) (numbers_of s m.new) adj.new result }
+    requires given { Given (Handed input) s }
+    ensures { Begins (Handed input.entry) s (floats_of s w.new) (numbers_of s m.new) adj.new result }
 {
-    if crossed(lower, upper) {
-        clear(m, s);
-        return Step::Stop;
-    }
-    if round_vars(lower, upper, domain, w, s, int_tol) {
-        adjacency(starts, index, cmp, rhs, adj, s);
-        return read_rows(starts, index, coeff, cmp, rhs, w, m, s);
-    }
     clear(m, s);
-    Step::Stop
+    if crossed(input.lower, input.upper) {
+        return Err(Infeasible);
+    }
+    round_vars(input, w, s)?;
+    adjacency(input.rows, adj, s);
+    read_rows(input.rows, w, m, s)
 }

@@ -1,25 +1,22 @@
 -- Implied bounds on the slices: one law for the four ways to tighten, by what the move is; and that each keeps the invariant.
-use Rattle.std.specs.Prelude.{ℕ, ◌-◌, ◌<◌, ◌≡◌, refl, Bool, true, false, not, ◌&&◌, List, eqb, length, get_or, set, Float}
+use Rattle.std.specs.Prelude.{ℕ, ◌<◌, ◌≡◌, refl, Bool, true, false, not, ◌&&◌, List, eqb, length, get_or, set, Float, Ok, Err}
 use Rattle.std.proofs.Common.{arith, ◌∙◌}
 use Rattle.std.proofs.Math.Path.{ap, sym, subst}
 use Rattle.std.proofs.Math.ListN.{length-set}
 use Rattle.std.specs.Float.{nan}
 use Rattle.floats.specs.Num.{choose, ◌⊖◌, ◌⊕◌, minf, maxf, is_finite, floor, ceil}
 use Rattle.tolerances.specs.Tol.{at, bound_tolerance}
-use Rattle.definition.specs.Params.{params}
+use Rattle.definition.specs.declared.Infeasible.{Infeasible}
 use Rattle.definition.specs.Model.{Model, is_int, is_mip, is_int_domain}
 use Rattle.definition.specs.Work.{Work, with_bounds, Step, stop, next, bound_tol}
 use Rattle.definition.specs.Bounds.{fix, mark_tightened, emit_bounds, upper_int, upper_real, lower_int, lower_real, tighten_upper, tighten_lower}
 use Rattle.space.specs.declared.Shape.{Shape}
-use Rattle.space.specs.declared.Step as code
-use Rattle.space.specs.declared.Step.TheVariants.{Stop, Next}
 use Rattle.space.specs.Store.{Floats, Numbers, put_wlo, put_whi, put_elo, put_ehi}
-use Rattle.formulas.specs.declared.Move.{Move}
-use Rattle.formulas.specs.declared.Move.TheVariants as moves
-use Rattle.formulas.specs.Moves.{by_move, upper_int_move, upper_real_move, lower_int_move, lower_real_move, upper_int_of, upper_real_of}
+use Rattle.formulas.specs.Moves.{Move, by_move, upper_int_move, upper_real_move, lower_int_move, lower_real_move, upper_int_of, upper_real_of}
 use Rattle.formulas.specs.Moves.{lower_int_of, lower_real_of, emits_tighter, emitted_lower, emitted_upper, emit_bounds_of}
 use Rattle.view.specs.Call.{Call}
-use Rattle.view.specs.Shows.{Shows, StepShown}
+use Rattle.view.specs.declared.Lists.{Lists}
+use Rattle.view.specs.Shows.{Shows, StepShown, Outcome}
 use Rattle.view.specs.Inv.{Inv}
 use Rattle.view.specs.Lists.{yes, no, either}
 use Rattle.view.specs.Acts.{Ready, Acts, Tries, Reads, ActsN, acts_then, of_numbers}
@@ -37,17 +34,17 @@ move_is s F T mv of z M w c e = sym (of M w c) ∙ ap (λ (y : Move). by_move y 
 
 module _ {P : Model → Type 0} {s : Shape} {f : Floats} {n : Numbers} (F : Model → Work → Step) (T : Model → Work → Work) (mv : Model → Work → Move)
     (of : (M : Model) (w : Work) → Call M s → by_move (mv M w) (next w) (stop w.counts) (next (T M w)) ≡ F M w) where
-  pub move_leave : {z : Move} → Reads P s f n z mv → z ≡ moves.Leave → Tries P s f n f n Next F
+  pub move_leave : {z : Move} → Reads P s f n z mv → z ≡ Ok false → Tries P s f n f n (Ok tt) F
   unfolding by_move
-  move_leave r e = record { does = λ M o k w p c h i. went_by (move_is s F T mv of moves.Leave M w c (r.reads M o k w p c h i ∙ e)) h }
+  move_leave r e = record { does = λ M o k w p c h i. went_by (move_is s F T mv of (Ok false) M w c (r.reads M o k w p c h i ∙ e)) h }
 
-  pub move_stop : {z : Move} → Reads P s f n z mv → z ≡ moves.Stop → Tries P s f n f n Stop F
+  pub move_stop : {z : Move} {x y : Infeasible} → Reads P s f n z mv → z ≡ Err x → Tries P s f n f n (Err y) F
   unfolding by_move
-  move_stop r e = record { does = λ M o k w p c h i. stopped_by {w = w} (move_is s F T mv of moves.Stop M w c (r.reads M o k w p c h i ∙ e)) h }
+  move_stop {x = x} r e = record { does = λ M o k w p c h i. stopped_by {w = w} (move_is s F T mv of (Err x) M w c (r.reads M o k w p c h i ∙ e)) h }
 
-  pub move_tighten : {z : Move} {f' : Floats} {n' : Numbers} → Reads P s f n z mv → z ≡ moves.Tighten → Acts P s f n f' n' T → Tries P s f n f' n' Next F
+  pub move_tighten : {z : Move} {f' : Floats} {n' : Numbers} → Reads P s f n z mv → z ≡ Ok true → Acts P s f n f' n' T → Tries P s f n f' n' (Ok tt) F
   unfolding by_move
-  move_tighten r e a = record { does = λ M o k w p c h i. went_by (move_is s F T mv of moves.Tighten M w c (r.reads M o k w p c h i ∙ e)) (a.does M o k w p c h i) }
+  move_tighten r e a = record { does = λ M o k w p c h i. went_by (move_is s F T mv of (Ok true) M w c (r.reads M o k w p c h i ∙ e)) (a.does M o k w p c h i) }
 
 -- ---- the four
 -- the tolerance of an emitted bound
@@ -93,14 +90,14 @@ module _ {s : Shape} {adj : List ℕ} {f : Floats} {n : Numbers} (v : ℕ) (q : 
 
   -- ---- upper_int
   module _ {eh wl : Float} {z : Move} (e₁ : eh ≡ get_or f.ehi v nan) (e₂ : wl ≡ get_or f.wlo v nan) (g : z ≡ upper_int_move q eh wl) where
-    pub upper_int_leave : z ≡ moves.Leave → Tries (Adj adj) s f n f n Next (λ M. upper_int M v q)
+    pub upper_int_leave : z ≡ Ok false → Tries (Adj adj) s f n f n (Ok tt) (λ M. upper_int M v q)
     upper_int_leave e = move_leave (λ M. upper_int M v q) (lower_upper v q) _ (λ M w c. upper_int_of M v w q) (upper_int_reads e₁ e₂ g) e
 
-    pub upper_int_stop : z ≡ moves.Stop → Tries (Adj adj) s f n f n Stop (λ M. upper_int M v q)
+    pub upper_int_stop : {x y : Infeasible} → z ≡ Err x → Tries (Adj adj) s f n f n (Err y) (λ M. upper_int M v q)
     upper_int_stop e = move_stop (λ M. upper_int M v q) (lower_upper v q) _ (λ M w c. upper_int_of M v w q) (upper_int_reads e₁ e₂ g) e
 
-    pub upper_int_tight : {wh y : Float} {f₁ f₂ : Floats} {n' : Numbers} → z ≡ moves.Tighten → wh ≡ get_or f.whi v nan → f₁ ≡ put_ehi v q f → y ≡ minf wh q → f₂ ≡ put_whi v y f₁
-        → ActsN (Adj adj) s n n' (λ M. mark_tightened M v) → Tries (Adj adj) s f n f₂ n' Next (λ M. upper_int M v q)
+    pub upper_int_tight : {wh y : Float} {f₁ f₂ : Floats} {n' : Numbers} → z ≡ Ok true → wh ≡ get_or f.whi v nan → f₁ ≡ put_ehi v q f → y ≡ minf wh q → f₂ ≡ put_whi v y f₁
+        → ActsN (Adj adj) s n n' (λ M. mark_tightened M v) → Tries (Adj adj) s f n f₂ n' (Ok tt) (λ M. upper_int M v q)
     upper_int_tight {y = y} {f₂ = f₂} {n' = n'} e eh' a₁ ey a₂ m =
         let a = acts_then (ehi_acts a₁) (ehi_keeps v q) (acts_then (whi_acts a₂) (whi_keeps v y) (of_numbers m)) in
         let b : Acts (Adj adj) s f n f₂ n' (lower_upper v q) =
@@ -114,14 +111,14 @@ module _ {s : Shape} {adj : List ℕ} {f : Floats} {n : Numbers} (v : ℕ) (q : 
 
   -- ---- lower_int
   module _ {el wh : Float} {z : Move} (e₁ : el ≡ get_or f.elo v nan) (e₂ : wh ≡ get_or f.whi v nan) (g : z ≡ lower_int_move q el wh) where
-    pub lower_int_leave : z ≡ moves.Leave → Tries (Adj adj) s f n f n Next (λ M. lower_int M v q)
+    pub lower_int_leave : z ≡ Ok false → Tries (Adj adj) s f n f n (Ok tt) (λ M. lower_int M v q)
     lower_int_leave e = move_leave (λ M. lower_int M v q) (raise_lower v q) _ (λ M w c. lower_int_of M v w q) (lower_int_reads e₁ e₂ g) e
 
-    pub lower_int_stop : z ≡ moves.Stop → Tries (Adj adj) s f n f n Stop (λ M. lower_int M v q)
+    pub lower_int_stop : {x y : Infeasible} → z ≡ Err x → Tries (Adj adj) s f n f n (Err y) (λ M. lower_int M v q)
     lower_int_stop e = move_stop (λ M. lower_int M v q) (raise_lower v q) _ (λ M w c. lower_int_of M v w q) (lower_int_reads e₁ e₂ g) e
 
-    pub lower_int_tight : {wl y : Float} {f₁ f₂ : Floats} {n' : Numbers} → z ≡ moves.Tighten → wl ≡ get_or f.wlo v nan → f₁ ≡ put_elo v q f → y ≡ maxf wl q → f₂ ≡ put_wlo v y f₁
-        → ActsN (Adj adj) s n n' (λ M. mark_tightened M v) → Tries (Adj adj) s f n f₂ n' Next (λ M. lower_int M v q)
+    pub lower_int_tight : {wl y : Float} {f₁ f₂ : Floats} {n' : Numbers} → z ≡ Ok true → wl ≡ get_or f.wlo v nan → f₁ ≡ put_elo v q f → y ≡ maxf wl q → f₂ ≡ put_wlo v y f₁
+        → ActsN (Adj adj) s n n' (λ M. mark_tightened M v) → Tries (Adj adj) s f n f₂ n' (Ok tt) (λ M. lower_int M v q)
     lower_int_tight {y = y} {f₂ = f₂} {n' = n'} e el' a₁ ey a₂ m =
         let a = acts_then (elo_acts a₁) (elo_keeps v q) (acts_then (wlo_acts a₂) (wlo_keeps v y) (of_numbers m)) in
         let b : Acts (Adj adj) s f n f₂ n' (raise_lower v q) =
@@ -136,14 +133,14 @@ module _ {s : Shape} {adj : List ℕ} {f : Floats} {n : Numbers} (v : ℕ) (q : 
   -- ---- upper_real
   module _ {wh wl el tol : Float} {z : Move} (e₁ : wh ≡ get_or f.whi v nan) (e₂ : wl ≡ get_or f.wlo v nan) (e₃ : el ≡ get_or f.elo v nan)
       (e₄ : tol ≡ bound_tolerance s.feas el) (g : z ≡ upper_real_move q wh wl tol) where
-    pub upper_real_leave : z ≡ moves.Leave → Tries (Adj adj) s f n f n Next (λ M. upper_real M v q)
+    pub upper_real_leave : z ≡ Ok false → Tries (Adj adj) s f n f n (Ok tt) (λ M. upper_real M v q)
     upper_real_leave e = move_leave (λ M. upper_real M v q) (work_upper v q) _ (λ M w c. upper_real_of M v w q c.params) (upper_real_reads e₁ e₂ e₃ e₄ g) e
 
-    pub upper_real_stop : z ≡ moves.Stop → Tries (Adj adj) s f n f n Stop (λ M. upper_real M v q)
+    pub upper_real_stop : {x y : Infeasible} → z ≡ Err x → Tries (Adj adj) s f n f n (Err y) (λ M. upper_real M v q)
     upper_real_stop e = move_stop (λ M. upper_real M v q) (work_upper v q) _ (λ M w c. upper_real_of M v w q c.params) (upper_real_reads e₁ e₂ e₃ e₄ g) e
 
-    pub upper_real_tight : {f' : Floats} {n' : Numbers} → z ≡ moves.Tighten → f' ≡ put_whi v q f → ActsN (Adj adj) s n n' (λ M. mark_tightened M v)
-        → Tries (Adj adj) s f n f' n' Next (λ M. upper_real M v q)
+    pub upper_real_tight : {f' : Floats} {n' : Numbers} → z ≡ Ok true → f' ≡ put_whi v q f → ActsN (Adj adj) s n n' (λ M. mark_tightened M v)
+        → Tries (Adj adj) s f n f' n' (Ok tt) (λ M. upper_real M v q)
     upper_real_tight {f' = f'} {n' = n'} e a m =
         let b : Acts (Adj adj) s f n f' n' (work_upper v q) = record { does = (acts_then (whi_acts a) (whi_keeps v q) (of_numbers m)).does } in
         move_tighten (λ M. upper_real M v q) (work_upper v q) _ (λ M w c. upper_real_of M v w q c.params) (upper_real_reads e₁ e₂ e₃ e₄ g) e b
@@ -151,21 +148,25 @@ module _ {s : Shape} {adj : List ℕ} {f : Floats} {n : Numbers} (v : ℕ) (q : 
   -- ---- lower_real
   module _ {wl wh eh tol : Float} {z : Move} (e₁ : wl ≡ get_or f.wlo v nan) (e₂ : wh ≡ get_or f.whi v nan) (e₃ : eh ≡ get_or f.ehi v nan)
       (e₄ : tol ≡ bound_tolerance s.feas eh) (g : z ≡ lower_real_move q wl wh tol) where
-    pub lower_real_leave : z ≡ moves.Leave → Tries (Adj adj) s f n f n Next (λ M. lower_real M v q)
+    pub lower_real_leave : z ≡ Ok false → Tries (Adj adj) s f n f n (Ok tt) (λ M. lower_real M v q)
     lower_real_leave e = move_leave (λ M. lower_real M v q) (work_lower v q) _ (λ M w c. lower_real_of M v w q c.params) (lower_real_reads e₁ e₂ e₃ e₄ g) e
 
-    pub lower_real_stop : z ≡ moves.Stop → Tries (Adj adj) s f n f n Stop (λ M. lower_real M v q)
+    pub lower_real_stop : {x y : Infeasible} → z ≡ Err x → Tries (Adj adj) s f n f n (Err y) (λ M. lower_real M v q)
     lower_real_stop e = move_stop (λ M. lower_real M v q) (work_lower v q) _ (λ M w c. lower_real_of M v w q c.params) (lower_real_reads e₁ e₂ e₃ e₄ g) e
 
-    pub lower_real_tight : {f' : Floats} {n' : Numbers} → z ≡ moves.Tighten → f' ≡ put_wlo v q f → ActsN (Adj adj) s n n' (λ M. mark_tightened M v)
-        → Tries (Adj adj) s f n f' n' Next (λ M. lower_real M v q)
+    pub lower_real_tight : {f' : Floats} {n' : Numbers} → z ≡ Ok true → f' ≡ put_wlo v q f → ActsN (Adj adj) s n n' (λ M. mark_tightened M v)
+        → Tries (Adj adj) s f n f' n' (Ok tt) (λ M. lower_real M v q)
     lower_real_tight {f' = f'} {n' = n'} e a m =
         let b : Acts (Adj adj) s f n f' n' (work_lower v q) = record { does = (acts_then (wlo_acts a) (wlo_keeps v q) (of_numbers m)).does } in
         move_tighten (λ M. lower_real M v q) (work_lower v q) _ (λ M w c. lower_real_of M v w q c.params) (lower_real_reads e₁ e₂ e₃ e₄ g) e b
 
 -- ---- tighten_upper and tighten_lower: by the variable's kind
+-- one of the two, by which end it is
+abbrev pub tightens : ℕ → Float → Float → Bool → Model → Work → Step
+tightens v q relax above M w = choose above (tighten_upper M v q relax w) (tighten_lower M v q relax w)
+
 -- two definitions that agree
-tries_same : {P : Model → Type 0} {s : Shape} {f f' : Floats} {n n' : Numbers} {z : code.Step} {F G : Model → Work → Step}
+tries_same : {P : Model → Type 0} {s : Shape} {f f' : Floats} {n n' : Numbers} {z : Outcome} {F G : Model → Work → Step}
     → ((M : Model) (w : Work) → P M → Call M s → F M w ≡ G M w) → Tries P s f n f' n' z G → Tries P s f n f' n' z F
 tries_same {f' = f'} {n' = n'} {z = z} e t =
     record { does = λ M o k w p c h i. subst (λ (y : Step). StepShown M f' n' o z y) (sym (e M w p c)) (t.does M o k w p c h i) }
@@ -174,9 +175,9 @@ tries_same {f' = f'} {n' = n'} {z = z} e t =
 unfoldable pub int_code : Bool → ℕ → Bool
 int_code mip d = mip && not (eqb d 1)
 
-pub int_is : {M : Model} {s : Shape} {domain adj : List ℕ} (v : ℕ) → Call M s → Bounding domain adj M → is_int M v ≡ int_code s.mip (get_or domain v 0)
+pub int_is : {M : Model} {s : Shape} {ds : List ℕ} (v : ℕ) → Call M s → M.domain ≡ ds → is_int M v ≡ int_code s.mip (get_or ds v 0)
 unfolding is_int is_int_domain is_mip int_code
-int_is v c b = cc (c.mip, b.domain)
+int_is v c e = cc (c.mip, e)
 
 pub int_yes : {mip : Bool} (d : ℕ) → mip ≡ true → not (eqb d 1) ≡ int_code mip d
 unfolding int_code
@@ -187,40 +188,52 @@ unfolding int_code
 int_no d e = rw e
 
 -- there is a domain for every variable
-pub bounding_domain : {s : Shape} {domain adj : List ℕ} {f : Floats} {n : Numbers} {v : ℕ} → Ready (Bounding domain adj) s f n → v < s.vars → v < length domain
+pub bounding_domain : {s : Shape} {lists : Lists} {f : Floats} {n : Numbers} {v : ℕ} → Ready (Bounding lists) s f n → v < s.vars → v < length lists.domain.now
 bounding_domain R p = omega (arith, p, R.call.vars, R.call.domains, ap length R.known.domain)
 
-module _ {s : Shape} {domain adj : List ℕ} {f : Floats} {n : Numbers} (v : ℕ) (q relax : Float) where
-  pub upper_skip : is_finite q ≡ false → Tries (Bounding domain adj) s f n f n Next (λ M. tighten_upper M v q relax)
+module _ {s : Shape} {lists : Lists} {f : Floats} {n : Numbers} (v : ℕ) (q relax : Float) where
+  pub upper_skip : is_finite q ≡ false → Tries (Bounding lists) s f n f n (Ok tt) (λ M. tighten_upper M v q relax)
   unfolding tighten_upper
   upper_skip e = record { does = λ M o k w p c h i. went_by (no _ _ e) h }
 
-  pub lower_skip : is_finite q ≡ false → Tries (Bounding domain adj) s f n f n Next (λ M. tighten_lower M v q relax)
+  pub lower_skip : is_finite q ≡ false → Tries (Bounding lists) s f n f n (Ok tt) (λ M. tighten_lower M v q relax)
   unfolding tighten_lower
   lower_skip e = record { does = λ M o k w p c h i. went_by (no _ _ e) h }
 
-module _ {s : Shape} {domain adj : List ℕ} {f f' : Floats} {n n' : Numbers} {z : code.Step} (v : ℕ) (q relax : Float) where
-  pub upper_whole : {b : Bool} {x : Float} → is_finite q ≡ true → b ≡ int_code s.mip (get_or domain v 0) → b ≡ true → x ≡ floor (q ⊕ relax)
-      → Tries (Adj adj) s f n f' n' z (λ M. upper_int M v x) → Tries (Bounding domain adj) s f n f' n' z (λ M. tighten_upper M v q relax)
+module _ {s : Shape} {lists : Lists} {f f' : Floats} {n n' : Numbers} {z : Outcome} (v : ℕ) (q relax : Float) where
+  pub upper_whole : {b : Bool} {x : Float} → is_finite q ≡ true → b ≡ int_code s.mip (get_or lists.domain.now v 0) → b ≡ true → x ≡ floor (q ⊕ relax)
+      → Tries (Adj lists.adj.now) s f n f' n' z (λ M. upper_int M v x) → Tries (Bounding lists) s f n f' n' z (λ M. tighten_upper M v q relax)
   unfolding tighten_upper
   upper_whole {x = x} e g b g' t =
-      tries_same (λ M w p c. yes _ _ e ∙ yes _ _ (int_is v c p ∙ sym g ∙ b) ∙ ap (λ (y : Float). upper_int M v y w) (sym g')) (tries_under bounding_adj t)
+      tries_same (λ M w p c. yes _ _ e ∙ yes _ _ (int_is v c p.domain ∙ sym g ∙ b) ∙ ap (λ (y : Float). upper_int M v y w) (sym g')) (tries_under bounding_adj t)
 
-  pub lower_whole : {b : Bool} {x : Float} → is_finite q ≡ true → b ≡ int_code s.mip (get_or domain v 0) → b ≡ true → x ≡ ceil (q ⊖ relax)
-      → Tries (Adj adj) s f n f' n' z (λ M. lower_int M v x) → Tries (Bounding domain adj) s f n f' n' z (λ M. tighten_lower M v q relax)
+  pub lower_whole : {b : Bool} {x : Float} → is_finite q ≡ true → b ≡ int_code s.mip (get_or lists.domain.now v 0) → b ≡ true → x ≡ ceil (q ⊖ relax)
+      → Tries (Adj lists.adj.now) s f n f' n' z (λ M. lower_int M v x) → Tries (Bounding lists) s f n f' n' z (λ M. tighten_lower M v q relax)
   unfolding tighten_lower
   lower_whole {x = x} e g b g' t =
-      tries_same (λ M w p c. yes _ _ e ∙ yes _ _ (int_is v c p ∙ sym g ∙ b) ∙ ap (λ (y : Float). lower_int M v y w) (sym g')) (tries_under bounding_adj t)
+      tries_same (λ M w p c. yes _ _ e ∙ yes _ _ (int_is v c p.domain ∙ sym g ∙ b) ∙ ap (λ (y : Float). lower_int M v y w) (sym g')) (tries_under bounding_adj t)
 
-  pub upper_other : {b : Bool} → is_finite q ≡ true → b ≡ int_code s.mip (get_or domain v 0) → b ≡ false → Tries (Adj adj) s f n f' n' z
-      (λ M. upper_real M v (q ⊕ relax)) → Tries (Bounding domain adj) s f n f' n' z (λ M. tighten_upper M v q relax)
+  pub upper_other : {b : Bool} → is_finite q ≡ true → b ≡ int_code s.mip (get_or lists.domain.now v 0) → b ≡ false → Tries (Adj lists.adj.now) s f n f' n' z
+      (λ M. upper_real M v (q ⊕ relax)) → Tries (Bounding lists) s f n f' n' z (λ M. tighten_upper M v q relax)
   unfolding tighten_upper
-  upper_other e g b t = tries_same (λ M w p c. yes _ _ e ∙ no _ _ (int_is v c p ∙ sym g ∙ b)) (tries_under bounding_adj t)
+  upper_other e g b t = tries_same (λ M w p c. yes _ _ e ∙ no _ _ (int_is v c p.domain ∙ sym g ∙ b)) (tries_under bounding_adj t)
 
-  pub lower_other : {b : Bool} → is_finite q ≡ true → b ≡ int_code s.mip (get_or domain v 0) → b ≡ false → Tries (Adj adj) s f n f' n' z
-      (λ M. lower_real M v (q ⊖ relax)) → Tries (Bounding domain adj) s f n f' n' z (λ M. tighten_lower M v q relax)
+  pub lower_other : {b : Bool} → is_finite q ≡ true → b ≡ int_code s.mip (get_or lists.domain.now v 0) → b ≡ false → Tries (Adj lists.adj.now) s f n f' n' z
+      (λ M. lower_real M v (q ⊖ relax)) → Tries (Bounding lists) s f n f' n' z (λ M. tighten_lower M v q relax)
   unfolding tighten_lower
-  lower_other e g b t = tries_same (λ M w p c. yes _ _ e ∙ no _ _ (int_is v c p ∙ sym g ∙ b)) (tries_under bounding_adj t)
+  lower_other e g b t = tries_same (λ M w p c. yes _ _ e ∙ no _ _ (int_is v c p.domain ∙ sym g ∙ b)) (tries_under bounding_adj t)
+
+-- of either end
+module _ {s : Shape} {lists : Lists} {f f' : Floats} {n n' : Numbers} {z : Outcome} (v : ℕ) (q relax : Float) {above : Bool} where
+  pub from_above : above ≡ true → Tries (Bounding lists) s f n f' n' z (λ M. tighten_upper M v q relax) → Tries (Bounding lists) s f n f' n' z (tightens v q relax above)
+  from_above a t = tries_same (λ M w p c. yes _ _ a) t
+
+  pub from_below : above ≡ false → Tries (Bounding lists) s f n f' n' z (λ M. tighten_lower M v q relax) → Tries (Bounding lists) s f n f' n' z (tightens v q relax above)
+  from_below a t = tries_same (λ M w p c. no _ _ a) t
+
+pub skip : {s : Shape} {lists : Lists} {f : Floats} {n : Numbers} (v : ℕ) (q relax : Float) (above : Bool) → is_finite q ≡ false → Tries (Bounding lists) s f n f n (Ok tt) (tightens v q relax above)
+skip v q relax true e = from_above v q relax refl (upper_skip v q relax e)
+skip v q relax false e = from_below v q relax refl (lower_skip v q relax e)
 
 -- ---- emit_bounds: the row's variables are marked first, then the four bounds are stored
 all_four : {M : Model} {f f' : Floats} {n n₀ : Numbers} {o : List ℕ} {w u : Work} (v : ℕ) (x y lo hi : Float) → Shows M f n₀ o w → Shows M f n o u
@@ -359,3 +372,6 @@ module _ {M : Model} {k : ℕ} (v : ℕ) (w : Work) (i : Inv M k w) where
   pub inv_lower : (q relax : Float) → InvStep M k (tighten_lower M v q relax w)
   unfolding tighten_lower
   inv_lower q relax = either (InvStep M k) _ (λ e. either (InvStep M k) _ (λ e'. inv_lower_int _) (λ e'. inv_lower_real _)) (λ e. goes i)
+
+  pub inv_tightens : (q relax : Float) (above : Bool) → InvStep M k (tightens v q relax above M w)
+  inv_tightens q relax above = either (InvStep M k) above (λ e. inv_upper q relax) (λ e. inv_lower q relax)

@@ -1,5 +1,5 @@
 -- An implied bound that leaves its variable as it is, whatever it is relaxed by that is not negative.
-use Rattle.std.specs.Prelude.{ℕ, ◌≡◌, refl, Bool, List, get_or, Float}
+use Rattle.std.specs.Prelude.{ℕ, ◌≡◌, refl, Bool, List, get_or, Float, Ok}
 use Rattle.std.proofs.Math.Path.{sym}
 use Rattle.std.proofs.Common.{◌∙◌}
 use Rattle.std.proofs.Math.Bool.{true, false}
@@ -14,10 +14,9 @@ use Rattle.definition.specs.Work.{Work, Step, next, bound_tol}
 use Rattle.definition.specs.Bounds.{upper_int, upper_real, lower_int, lower_real, tighten_upper, tighten_lower}
 use Rattle.space.specs.declared.Shape.{Shape}
 use Rattle.space.specs.Store.{Floats, Numbers}
-use Rattle.formulas.specs.declared.Move.{Move}
-use Rattle.formulas.specs.declared.Move.TheVariants.{Leave}
-use Rattle.formulas.specs.Moves.{by_move, upper_int_move, upper_real_move, lower_int_move, lower_real_move, upper_int_of, upper_real_of, lower_int_of, lower_real_of}
+use Rattle.formulas.specs.Moves.{Move, by_move, upper_int_move, upper_real_move, lower_int_move, lower_real_move, upper_int_of, upper_real_of, lower_int_of, lower_real_of}
 use Rattle.formulas.specs.Stays.{upper_still, lower_still, UpperStays, LowerStays}
+use Rattle.view.specs.declared.Lists.{Lists}
 use Rattle.view.specs.Call.{Call}
 use Rattle.view.specs.Shows.{Shows}
 use Rattle.view.specs.Lists.{yes, no, either}
@@ -34,10 +33,10 @@ still_at domain s f v q above =
 
 -- and what it is for
 pub record Stays (domain : List ℕ) (s : Shape) (f : Floats) (v : ℕ) (q : Float) (above : Bool) : Type 0 where
-  pub stays : (adj : List ℕ) (M : Model) (n : Numbers) (o : List ℕ) (w : Work) → Bounding domain adj M → Call M s → Shows M f n o w → (t : Float) → Held t
+  pub stays : (lists : Lists) (M : Model) (n : Numbers) (o : List ℕ) (w : Work) → lists.domain.now ≡ domain → Bounding lists M → Call M s → Shows M f n o w → (t : Float) → Held t
       → NotNeg t → choose above (tighten_upper M v q t w) (tighten_lower M v q t w) ≡ next w
 
-left_so : {A : Type 0} {m : Move} (x y z : A) → m ≡ Leave → by_move m x y z ≡ x
+left_so : {A : Type 0} {m : Move} (x y z : A) → m ≡ Ok false → by_move m x y z ≡ x
 unfolding by_move
 left_so x y z e = rw e
 
@@ -52,13 +51,13 @@ module _ (M : Model) (v : ℕ) (q t : Float) (w : Work) where
   lower_still_lem h = either (λ (y : Step). y ≡ next w) (is_finite q) (λ e. h) (λ e. refl)
 
   module _ (p : M.params ≡ params) where
-    upper_moves : (b : Bool) → choose b (upper_int_move (floor (q ⊕ t)) (at w.ehi v) (at w.wlo v)) (upper_real_move (q ⊕ t) (at w.whi v) (at w.wlo v) (bound_tol M w v false)) ≡ Leave
+    upper_moves : (b : Bool) → choose b (upper_int_move (floor (q ⊕ t)) (at w.ehi v) (at w.wlo v)) (upper_real_move (q ⊕ t) (at w.whi v) (at w.wlo v) (bound_tol M w v false)) ≡ Ok false
         → choose b (upper_int M v (floor (q ⊕ t)) w) (upper_real M v (q ⊕ t) w) ≡ next w
     unfolding choose
     upper_moves true e = sym (upper_int_of M v w (floor (q ⊕ t))) ∙ left_so _ _ _ e
     upper_moves false e = sym (upper_real_of M v w (q ⊕ t) p) ∙ left_so _ _ _ e
 
-    lower_moves : (b : Bool) → choose b (lower_int_move (ceil (q ⊖ t)) (at w.elo v) (at w.whi v)) (lower_real_move (q ⊖ t) (at w.wlo v) (at w.whi v) (bound_tol M w v true)) ≡ Leave
+    lower_moves : (b : Bool) → choose b (lower_int_move (ceil (q ⊖ t)) (at w.elo v) (at w.whi v)) (lower_real_move (q ⊖ t) (at w.wlo v) (at w.whi v) (bound_tol M w v true)) ≡ Ok false
         → choose b (lower_int M v (ceil (q ⊖ t)) w) (lower_real M v (q ⊖ t) w) ≡ next w
     unfolding choose
     lower_moves true e = sym (lower_int_of M v w (ceil (q ⊖ t))) ∙ left_so _ _ _ e
@@ -68,21 +67,21 @@ module _ {domain : List ℕ} {s : Shape} {f : Floats} {v : ℕ} {q : Float} {int
   pub stays_above : {ehi whi : Float} → above ≡ true → ehi ≡ get_or f.ehi v nan → whi ≡ get_or f.whi v nan → UpperStays int q ehi whi → Stays domain s f v q above
   stays_above a eh wh u =
       record {
-        stays = λ adj M n o w b c h t ht nt.
+        stays = λ lists M n o w d b c h t ht nt.
             yes _ _ a
             ∙ upper_still_lem M v q t w
             (upper_moves M v q t w c.params (is_int M v)
-            (rw (int_is v c b, ← ei, ← ehi_is v h eh, ← whi_is v h wh) (u.leaves t (at w.wlo v) (bound_tol M w v false) ht nt)));
+            (rw (int_is v c (b.domain ∙ d), ← ei, ← ehi_is v h eh, ← whi_is v h wh) (u.leaves t (at w.wlo v) (bound_tol M w v false) ht nt)));
       }
 
   pub stays_below : {elo wlo : Float} → above ≡ false → elo ≡ get_or f.elo v nan → wlo ≡ get_or f.wlo v nan → LowerStays int q elo wlo → Stays domain s f v q above
   stays_below a el wl u =
       record {
-        stays = λ adj M n o w b c h t ht nt.
+        stays = λ lists M n o w d b c h t ht nt.
             no _ _ a
             ∙ lower_still_lem M v q t w
             (lower_moves M v q t w c.params (is_int M v)
-            (rw (int_is v c b, ← ei, ← elo_is v h el, ← wlo_is v h wl) (u.leaves t (at w.whi v) (bound_tol M w v true) ht nt)));
+            (rw (int_is v c (b.domain ∙ d), ← ei, ← elo_is v h el, ← wlo_is v h wl) (u.leaves t (at w.whi v) (bound_tol M w v true) ht nt)));
       }
 
 -- the test itself, by the side

@@ -10,4 +10,4 @@
 mod bounds;
 mod marks;
 
-pub use bounds::{emit_bounds, fix, fix_beside, stays, tighten_lower, tighten_upper};
+pub use bounds::{emit_bounds, fix, stays, tighten};

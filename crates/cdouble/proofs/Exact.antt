@@ -14,17 +14,15 @@ use Rattle.std.proofs.Math.Dec.{nleb→lt}
 use Rattle.std.specs.Float.{nan, inf, binary64}
 use Rattle.std.specs.Float.Ieee.{add, sub, mul, round, unlike, of_bits, size}
 use Rattle.std.specs.Float.Ieee.Digits.{back}
-use Rattle.std.specs.Float.Ieee.Scale.{finite}
 use Rattle.floats.specs.Near.{near, Rep, near_fix, rep_scaled}
 use Rattle.floats.specs.Zed.{P, N, A, side, ext, add_parts, sub_parts}
-use Rattle.floats.specs.Signed.{rz, near_exact, rep_zero, A_rz, either}
+use Rattle.floats.specs.Signed.{rz, near_exact, rep_zero, A_rz}
 use Rattle.floats.specs.Error.{rz_off}
 use Rattle.floats.specs.Next.{gap, next_le, grid}
 use Rattle.floats.specs.Value.{mags, sign, units, signed, signed_A, size_of, Num, TOP, mags_rep}
 use Rattle.floats.specs.Value.{sub_units, sub_num, sub_finite, mul_units, mul_num, mul_finite}
 use Rattle.floats.specs.Product.{units_is}
 use Rattle.floats.specs.Num.{◌⊕◌, ◌⊖◌, ◌⊗◌, MAX}
-use Rattle.cdouble.specs.TwoSum.{two_sum_lem}
 use Rattle.cdouble.specs.Dekker.{factor, SplitOf, Splits, split_floats}
 use Rattle.cdouble.specs.Double.{two_sum, split, two_product, FACTOR}
 use Rattle.cdouble.specs.Exact.{ExactProduct, ExactSplit, Full, Minus, Short, Zero}

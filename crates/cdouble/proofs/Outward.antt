@@ -1,6 +1,6 @@
 -- `rounded` GOES OUTWARD: up, it is the least float at or above the exact sum hi + lo, an infinity past the largest number; down, the greatest at or below it.
 -- The conditions are those of two_sum_lem: hi, lo and their rounded sum are numbers, and lo is neither the largest number nor its negative.
-use Rattle.std.specs.Prelude.{◌≡◌, ◌+◌, ◌-◌, ◌<◌, Bool, not, leb, ℤ, ◌+ℤ◌, Float}
+use Rattle.std.specs.Prelude.{◌≡◌, ◌+◌, ◌<◌, Bool, not, leb, ℤ, ◌+ℤ◌, Float}
 use Rattle.std.proofs.Math.Path.{refl, ap, subst}
 use Rattle.std.proofs.Common.{sym, ◌∙◌, le_of_lt, not-le_of_lt, arith, leb→le}
 use Rattle.std.proofs.Math.Bool.{true, false}

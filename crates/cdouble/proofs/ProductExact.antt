@@ -6,21 +6,17 @@
 --                        nor the product of the high halves overflows (`two_product_finite`):
 --                    so for every product up to 2 ^ 1024 - 2 ^ 999 (`two_product_exact`), and 998 would not do for 999 (`two_product_sliver`).
 -- `two_sum_largest`, `split_overflow`, `two_product_underflow` and `two_product_overflow` are numbers past these conditions at which it is false.
-use Rattle.std.specs.Prelude.{◌≡◌, ◌⊎◌, ℕ, suc, ◌+◌, ◌-◌, ◌*◌, ◌^◌, ◌≤◌, ◌<◌, false, not, T, ℤ, pos, ◌+ℤ◌, Float}
+use Rattle.std.specs.Prelude.{◌≡◌, ◌⊎◌, ℕ, ◌+◌, ◌-◌, ◌*◌, ◌^◌, ◌≤◌, ◌<◌, T, ◌+ℤ◌, Float}
 use Rattle.std.proofs.Math.Path.{refl}
 use Rattle.std.proofs.Common.{sym, subst, inl, inr, eq-zero-or-pos, mul-pos, lt_irrefl, arith}
-use Rattle.std.specs.Float.Ieee.{sub, mul, round, size}
 use Rattle.std.specs.Float.Ieee.Digits.{back}
 use Rattle.std.specs.Float.Ieee.Scale.{finite}
-use Rattle.floats.specs.Zed.{P, N}
-use Rattle.floats.specs.Signed.{either}
 use Rattle.floats.specs.Value.{mags, units, Num, mags_rep}
 use Rattle.floats.specs.Value.{mul_finite}
 use Rattle.floats.specs.Product.{prod_mul}
 use Rattle.floats.specs.Num.{◌⊗◌}
-use Rattle.cdouble.specs.TwoSum.{two_sum_lem}
 use Rattle.cdouble.specs.Dekker.{Splits, two_product_floats, prod_of}
-use Rattle.cdouble.specs.Double.{two_sum, split, two_product}
+use Rattle.cdouble.specs.Double.{split, two_product}
 use Rattle.cdouble.proofs.Exact.{full, most, room, split_exact, split_full, zero_product}
 use Rattle.cdouble.specs.Exact.{ExactProduct}
 

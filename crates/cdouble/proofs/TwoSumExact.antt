@@ -6,13 +6,11 @@
 --                        nor the product of the high halves overflows (`two_product_finite`):
 --                    so for every product up to 2 ^ 1024 - 2 ^ 999 (`two_product_exact`), and 998 would not do for 999 (`two_product_sliver`).
 -- `two_sum_largest`, `split_overflow`, `two_product_underflow` and `two_product_overflow` are numbers past these conditions at which it is false.
-use Rattle.std.specs.Prelude.{◌≡◌, ℕ, suc, ◌+◌, ◌-◌, ◌*◌, ◌^◌, ◌≤◌, ◌<◌, false, not, T, leb, ℤ, ◌+ℤ◌, ◌-ℤ◌, Float}
-use Rattle.std.proofs.Common.{sym, ap, ◌∙◌, subst, le_trans, le_of_eq, le_of_lt, lt_of_le_of_lt, arith, leb→le, lit≤}
+use Rattle.std.specs.Prelude.{◌≡◌, ℕ, ◌+◌, ◌*◌, ◌^◌, ◌≤◌, ◌<◌, T, leb, ℤ, ◌+ℤ◌, ◌-ℤ◌, Float}
+use Rattle.std.proofs.Common.{sym, ap, ◌∙◌, subst, le_trans, le_of_eq, lt_of_le_of_lt, arith, leb→le, lit≤}
 use Rattle.std.proofs.Math.Dec.{nleb→lt}
-use Rattle.std.specs.Float.Ieee.{add, sub, round, size}
 use Rattle.std.specs.Float.Ieee.Scale.{finite}
-use Rattle.floats.specs.Near.{Rep}
-use Rattle.floats.specs.Zed.{P, N, A}
+use Rattle.floats.specs.Zed.{A}
 use Rattle.floats.specs.Signed.{rz, RepZ, rz_fix, rest_rep, A_rz, either}
 use Rattle.floats.specs.Error.{rz_off, below_top}
 use Rattle.floats.specs.Value.{mags, units, size_of, Num, TOP, mags_rep, mags_under, units_rep, add_units}
@@ -20,8 +18,7 @@ use Rattle.floats.specs.Value.{add_num, sum_finite_lem}
 use Rattle.floats.specs.Order.{mags_top}
 use Rattle.floats.specs.Num.{◌⊕◌, ◌⊖◌}
 use Rattle.cdouble.specs.TwoSum.{two_sum_lem}
-use Rattle.cdouble.specs.Dekker.{Splits}
-use Rattle.cdouble.specs.Double.{two_sum, split, two_product}
+use Rattle.cdouble.specs.Double.{two_sum}
 use Rattle.cdouble.proofs.Exact.{below_largest, bound_same, bound_t, bound_u, bound_v, bound_y, bound_z, minus}
 use Rattle.cdouble.specs.Exact.{ExactSum}
 

@@ -6,15 +6,18 @@ use Rattle.std.specs.Float.{nan}
 use Rattle.std.specs.Float.Ieee.{neg}
 use Rattle.floats.specs.Num.{choose, ◌⊕◌, 0f, abs}
 use Rattle.tolerances.specs.Tol.{at}
+use Rattle.tolerances.specs.declared.Comparison.{Comparison}
+use Rattle.tolerances.specs.declared.Comparison.TheVariants.{Equal, AtMost, AtLeast}
+use Rattle.tolerances.specs.Answers.{comparison_of}
 use Rattle.cdouble.specs.declared.CDouble.{CDouble}
 use Rattle.cdouble.specs.Double as double
+use Rattle.definition.specs.declared.Rows.{Rows}
 use Rattle.definition.specs.Model.{Model, from, written, op_of, rhs_of, Binding, coeff_in, or_else, coeff_of}
 use Rattle.definition.specs.Work.{Work}
 use Rattle.definition.specs.Bindings.{sum_coeffs, binding_sum, bound_with, rewritten_bound}
 use Rattle.space.specs.declared.Shape.{Shape}
 use Rattle.space.specs.Store.{Floats, Numbers}
-use Rattle.view.specs.Shows.{is_one}
-use Rattle.view.specs.Lists.{yes, no, one_is, one_not}
+use Rattle.view.specs.Lists.{yes, no}
 use Rattle.view.specs.Acts.{Reads}
 use Rattle.view.specs.Known.{Spans, Written, written_spans}
 use Rattle.readers.specs.Reading.{row_of, Alive}
@@ -79,10 +82,10 @@ from_is : {ss : List ℕ} (M : Model) (r : ℕ) → M.starts ≡ ss → from M r
 unfolding from
 from_is M r e = ap (λ (l : List ℕ). get_or l r 0) e
 
-module _ {ss is : List ℕ} {cs : List Float} {os : List ℕ} {bs : List Float} {s : Shape} {f : Floats} {n : Numbers} (r : ℕ) (p : r < s.rows) (a : Alive n r) where
-  pub bind_term : (d : CDouble) {k v : ℕ} {e z : CDouble} {x y : Float} → k < get_or n.binaries r 0 → v ≡ get_or n.binary (get_or ss r 0 + k) 0
-      → ReadsWritten is cs (get_or ss r 0) v x → e ≡ double.plus d (neg x) → Reads (Spans ss) s f n y (λ M w. coeff_of (row_of w r) v)
-      → z ≡ double.plus e y → Reads (Written ss is cs os bs) s f n z (λ M w. bind_step r M w (get_or n.binary (get_or ss r 0 + k) 0) d)
+module _ {rows : Rows} {s : Shape} {f : Floats} {n : Numbers} (r : ℕ) (p : r < s.rows) (a : Alive n r) where
+  pub bind_term : (d : CDouble) {k v : ℕ} {e z : CDouble} {x y : Float} → k < get_or n.binaries r 0 → v ≡ get_or n.binary (get_or rows.starts.now r 0 + k) 0
+      → ReadsWritten rows.index.now rows.coeff.now (get_or rows.starts.now r 0) v x → e ≡ double.plus d (neg x) → Reads (Spans rows.starts.now) s f n y (λ M w. coeff_of (row_of w r) v)
+      → z ≡ double.plus e y → Reads (Written rows) s f n z (λ M w. bind_step r M w (get_or n.binary (get_or rows.starts.now r 0 + k) 0) d)
   bind_term d {k} {v} {e} {z} {x} {y} l ev t ee u ez =
       record {
         reads = λ M o j w q c h i.
@@ -94,16 +97,16 @@ module _ {ss is : List ℕ} {cs : List Float} {os : List ℕ} {bs : List Float} 
             (λ (m : Float). double.plus (double.plus d (neg x)) m) uy ∙ ap (λ (m : CDouble). double.plus m y) (sym ee) ∙ sym ez;
       }
 
-module _ {ss is : List ℕ} {cs : List Float} {os : List ℕ} {bs : List Float} {s : Shape} {f : Floats} {n : Numbers} (r : ℕ) (b : Float) where
-  pub bind_start : {d : CDouble} → d ≡ double.from b → Over (Written ss is cs os bs) s f n r 0 d (bind_from r) (bind_all r b)
+module _ {rows : Rows} {s : Shape} {f : Floats} {n : Numbers} (r : ℕ) (b : Float) where
+  pub bind_start : {d : CDouble} → d ≡ double.from b → Over (Written rows) s f n r 0 d (bind_from r) (bind_all r b)
   bind_start e = over_start (λ M w. ap (λ (x : CDouble). bind_from r M w x (binaries_of (row_of w r).binding)) e)
 
-  module _ {k : ℕ} {d : CDouble} (p : r < s.rows) (a : Alive n r) (W : Over (Written ss is cs os bs) s f n r k d (bind_from r) (bind_all r b)) {l : ℕ} (el : l ≡ get_or n.binaries r 0) where
-    pub bind_turn : {z : CDouble} → k < l → Reads (Written ss is cs os bs) s f n z (λ M w. bind_step r M w (get_or n.binary (get_or ss r 0 + k) 0) d)
-        → Over (Written ss is cs os bs) s f n r (k + 1) z (bind_from r) (bind_all r b)
+  module _ {k : ℕ} {d : CDouble} (p : r < s.rows) (a : Alive n r) (W : Over (Written rows) s f n r k d (bind_from r) (bind_all r b)) {l : ℕ} (el : l ≡ get_or n.binaries r 0) where
+    pub bind_turn : {z : CDouble} → k < l → Reads (Written rows) s f n z (λ M w. bind_step r M w (get_or n.binary (get_or rows.starts.now r 0 + k) 0) d)
+        → Over (Written rows) s f n r (k + 1) z (bind_from r) (bind_all r b)
     bind_turn kl t = over_turn p a W el (bind_step r) (bind_cons r) written_spans kl refl t
 
-    pub bind_end : l ≤ k → Reads (Written ss is cs os bs) s f n d (bind_all r b)
+    pub bind_end : l ≤ k → Reads (Written rows) s f n d (bind_all r b)
     bind_end lk = over_end p a W el (bind_nil r) lk
 
 -- ---- rewritten_bound
@@ -118,23 +121,35 @@ bound_some M w r b up e g = ap (bound_with M (row_of w r) r) e ∙ ap
     (λ (u : Bool). double.rounded (double.plus (binding_sum M (row_of w r) r (double.from (at M.rhs r)) b.binaries) (choose u b.kept (neg b.kept))) u)
     g
 
-code_is : (x : ℕ) → x ≡ 1 → eqb x 1 ≡ true
-unfolding is_one
-code_is x e = ap is_one e ∙ one_is
+-- the arms of the match
+abbrev pub at_most : Comparison → Bool
+at_most Equal = false
+at_most AtMost = true
+at_most AtLeast = false
 
-code_not : (x : ℕ) → (x ≡ 1 → ⊥) → eqb x 1 ≡ false
-unfolding is_one
-code_not x e = one_not x e
+pub not_most : (c : Comparison) → (c ≡ AtMost → ⊥) → at_most c ≡ false
+not_most Equal h = refl
+not_most AtMost h = absurd (h refl)
+not_most AtLeast h = refl
 
-module _ {ss is : List ℕ} {cs : List Float} {os : List ℕ} {bs : List Float} {s : Shape} {f : Floats} {n : Numbers} (r : ℕ) (p : r < s.rows) (a : Alive n r)
+at_most_byte : (op : ℕ) → at_most (comparison_of op) ≡ eqb op 1
+unfolding comparison_of choose
+at_most_byte op = go (eqb op 1) (eqb op 2)
+  where
+    go : (u v : Bool) → at_most (choose u AtMost (choose v AtLeast Equal)) ≡ u
+    go true v = refl
+    go false true = refl
+    go false false = refl
+
+module _ {rows : Rows} {s : Shape} {f : Floats} {n : Numbers} (r : ℕ) (p : r < s.rows) (a : Alive n r)
     {l : ℕ} (el : l ≡ get_or n.binaries r 0) where
-  pub bound_none : l ≡ 0 → Reads (Written ss is cs os bs) s f n (get_or bs r nan) (λ M w. rewritten_bound M (row_of w r) r)
+  pub bound_none : l ≡ 0 → Reads (Written rows) s f n (get_or rows.rhs.now r nan) (λ M w. rewritten_bound M (row_of w r) r)
   bound_none z = record { reads = λ M o j w q c h i. bound_plain M w r (unbound_is (row_shown c h p a).binding (sym el ∙ z)) (ap (λ (y : List Float). get_or y r nan) q.rhs) }
 
   -- by the side that the row's bound is on
-  module _ (ne : l ≡ 0 → ⊥) {d : CDouble} {kept z : Float} (t : Reads (Written ss is cs os bs) s f n d (bind_all r (get_or bs r nan))) (ek : kept ≡ get_or f.kept r nan) where
-    bound_by : (up : Bool) → eqb (get_or os r 0) 1 ≡ up → z ≡ double.rounded (double.plus d (choose up kept (neg kept))) up
-        → Reads (Written ss is cs os bs) s f n z (λ M w. rewritten_bound M (row_of w r) r)
+  module _ (ne : l ≡ 0 → ⊥) {d : CDouble} {kept z : Float} (t : Reads (Written rows) s f n d (bind_all r (get_or rows.rhs.now r nan))) (ek : kept ≡ get_or f.kept r nan) where
+    bound_by : (up : Bool) → eqb (get_or rows.cmp.now r 0) 1 ≡ up → z ≡ double.rounded (double.plus d (choose up kept (neg kept))) up
+        → Reads (Written rows) s f n z (λ M w. rewritten_bound M (row_of w r) r)
     bound_by up eu ez =
         record {
           reads = λ M o j w q c h i.
@@ -148,8 +163,8 @@ module _ {ss is : List ℕ} {cs : List Float} {os : List ℕ} {bs : List Float} 
               bound_some M w r b up y.is (ap (λ (m : List ℕ). eqb (get_or m r 0) 1) q.cmp ∙ eu) ∙ cc (bb, bk) ∙ sym ez;
         }
 
-    pub bound_up : {e : CDouble} → get_or os r 0 ≡ 1 → e ≡ double.plus d kept → z ≡ double.rounded e true → Reads (Written ss is cs os bs) s f n z (λ M w. rewritten_bound M (row_of w r) r)
-    bound_up c ee ez = bound_by true (code_is _ c) (ez ∙ ap (λ (m : CDouble). double.rounded m true) (ee ∙ ap (double.plus d) (sym (yes kept (neg kept) refl))))
+    pub bound_up : {e : CDouble} {m : Comparison} → m ≡ comparison_of (get_or rows.cmp.now r 0) → at_most m ≡ true → e ≡ double.plus d kept → z ≡ double.rounded e true → Reads (Written rows) s f n z (λ M w. rewritten_bound M (row_of w r) r)
+    bound_up em c ee ez = bound_by true (sym (at_most_byte _) ∙ ap at_most (sym em) ∙ c) (ez ∙ ap (λ (m : CDouble). double.rounded m true) (ee ∙ ap (double.plus d) (sym (yes kept (neg kept) refl))))
 
-    pub bound_down : {e : CDouble} → (get_or os r 0 ≡ 1 → ⊥) → e ≡ double.plus d (neg kept) → z ≡ double.rounded e false → Reads (Written ss is cs os bs) s f n z (λ M w. rewritten_bound M (row_of w r) r)
-    bound_down c ee ez = bound_by false (code_not _ c) (ez ∙ ap (λ (m : CDouble). double.rounded m false) (ee ∙ ap (double.plus d) (sym (no kept (neg kept) refl))))
+    pub bound_down : {e : CDouble} {m : Comparison} → m ≡ comparison_of (get_or rows.cmp.now r 0) → at_most m ≡ false → e ≡ double.plus d (neg kept) → z ≡ double.rounded e false → Reads (Written rows) s f n z (λ M w. rewritten_bound M (row_of w r) r)
+    bound_down em c ee ez = bound_by false (sym (at_most_byte _) ∙ ap at_most (sym em) ∙ c) (ez ∙ ap (λ (m : CDouble). double.rounded m false) (ee ∙ ap (double.plus d) (sym (no kept (neg kept) refl))))

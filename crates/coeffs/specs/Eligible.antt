@@ -10,10 +10,12 @@ use Rattle.definition.specs.Work.{Work}
 use Rattle.definition.specs.Rewrites as defs
 use Rattle.definition.specs.Tighten.{binary, rewrite_of, eligible}
 use Rattle.formulas.specs.declared.Limits.{Limits}
-use Rattle.formulas.specs.Bare.{bare, ByParams}
+use Rattle.formulas.specs.Bare.{bare, Has, ByParams}
 use Rattle.formulas.specs.Rewriting.{binary_at, binary_of, rewrite_at, rewrite_of_lem}
 use Rattle.space.specs.declared.Shape.{Shape}
 use Rattle.space.specs.Store.{Floats, Numbers}
+use Rattle.view.specs.Call.{Call}
+use Rattle.view.specs.Shows.{Shows}
 use Rattle.view.specs.Acts.{Ready, Reads}
 use Rattle.view.specs.Known.{Spans}
 use Rattle.view.specs.Bounds.{elo_is, ehi_is}
@@ -34,6 +36,13 @@ binaries_domains M k = record { domain = k.domain }
 
 pub domain_in : {ds ss : List ℕ} {s : Shape} {f : Floats} {n : Numbers} {v : ℕ} → Ready (Binaries ds ss) s f n → v < s.vars → v < length ds
 domain_in R p = omega (arith, p, R.call.vars, R.call.domains, ap length R.known.domain)
+
+-- x is row r's four floats, in whatever state the floats show with the row alive
+pub record RowLimits (s : Shape) (f : Floats) (r : ℕ) (x : Limits) : Type 0 where
+  pub has : (M : Model) (n : Numbers) (o : List ℕ) (w : Work) → Call M s → Shows M f n o w → Alive n r → Has x (row_of w r)
+
+pub row_limits : {s : Shape} {f : Floats} {r terms : ℕ} {x : Limits} → ReadsLimits s f r terms x → RowLimits s f r x
+row_limits L = record { has = L.has }
 
 -- ---- is_binary
 pub is_binary : {ds : List ℕ} {s : Shape} {f : Floats} (v : ℕ) {i b : Bool} {lo hi : Float} → Tells (Domains ds) i (λ M. is_int_domain M v)
@@ -83,7 +92,7 @@ module _ {ds ss : List ℕ} {s : Shape} {f : Floats} {n : Numbers} (form : defs.
   count_start = record { few = omega arith; along = along_start (λ M w. refl) }
 
   module _ {k d : ℕ} (p : r < s.rows) (a : Alive n r) (C : Counting ds ss s f n form nz act r k d) {l : ℕ} (el : l ≡ get_or n.len r 0) where
-    pub count_turn : (x : Limits) {v z : ℕ} {c : Float} {y : defs.Rewrite} → ReadsLimits s f r x → k < l → v ≡ get_or n.vars (get_or ss r 0 + k) 0 → c ≡ get_or f.coeffs (get_or ss r 0 + k) nan
+    pub count_turn : (x : Limits) {v z : ℕ} {c : Float} {y : defs.Rewrite} → RowLimits s f r x → k < l → v ≡ get_or n.vars (get_or ss r 0 + k) 0 → c ≡ get_or f.coeffs (get_or ss r 0 + k) nan
         → ReadsF (Domains ds) s f y (λ M w. rewrite_at M (binary M w v) form nz (bare x) act c) → z ≡ defs.rewrites y → Counting ds ss s f n form nz act r (k + 1) (d + z)
     count_turn x {v} {z} {c} {y} lim kl ev ec t ez =
         record {

@@ -9,7 +9,9 @@ ghost use Rattle.readers.specs.Reading.{row_of, Alive};
 ghost use Rattle.coeffs.specs.Bound.{sum_all, bind_step, bind_all};
 
 use cdouble::CDouble;
-use space::Shape;
+use definition::Rows;
+use space::{Binaries, Binary, Kept, Shape};
+use tolerances::Comparison;
 
 // = sum_coeffs, of the row's own binaries
 pub fn sum_coeffs(starts: &[usize], w: &[f64], m: &[usize], s: Shape, r: usize) -> f64
@@ -18,25 +20,19 @@ pub fn sum_coeffs(starts: &[usize], w: &[f64], m: &[usize], s: Shape, r: usize) 
     ensures { Reads (Spans starts.now) s (floats_of s w.now) (numbers_of s m.now) result (sum_all r) }
 {
     let a = starts[r];
-    let n = space::get_binaries(m, s, r);
+    let n = space::get::<Binaries>(m, s, r);
     let mut sum = 0.0;
-    let mut k = 0;
-    while k < n {
-        let v = space::get_binary(m, s, a + k);
+    for k in 0..n {
+        let v = space::get::<Binary>(m, s, a + k);
         let x = readers::row_coeff(starts, w, m, s, r, v);
-        sum = sum + floats::absolute(x);
-        k += 1;
+        sum += floats::absolute(x);
     }
     sum
 }
 
 // The k-th binary's coefficient as written is taken off, and its coefficient now added.
 fn binding_term(
-    starts: &[usize],
-    index: &[usize],
-    coeff: &[f64],
-    cmp: &[u8],
-    rhs: &[f64],
+    rows: Rows,
     w: &[f64],
     m: &[usize],
     s: Shape,
@@ -45,74 +41,46 @@ fn binding_term(
     d: CDouble,
 ) -> CDouble
     requires r_lt_rows { (r < s.rows) × HoldsF s w.now × HoldsN s m.now × Alive (numbers_of s m.now) r × (k < get_or (numbers_of s m.now).binaries r 0) }
-    requires ready { Ready (Written starts.now index.now coeff.now cmp.now rhs.now) s (floats_of s w.now) (numbers_of s m.now) }
-    ensures { Reads (Written starts.now index.now coeff.now cmp.now rhs.now) s
-        (floats_of s w.now) (numbers_of s m.now) result
-        (λ M u. bind_step r M u (get_or (numbers_of s m.now).binary (get_or starts.now r 0 + k) 0) d) }
+    requires ready { Ready (Written rows) s (floats_of s w.now) (numbers_of s m.now) }
+    ensures { Reads (Written rows.entry) s (floats_of s w.now) (numbers_of s m.now) result
+        (λ M u. bind_step r M u (get_or (numbers_of s m.now).binary (get_or rows.entry.starts.now r 0 + k) 0) d) }
 {
-    let a = starts[r];
-    let v = space::get_binary(m, s, a + k);
-    let x = readers::written_coeff(index, coeff, a, v);
-    let e = d.add(-x);
-    let y = readers::row_coeff(starts, w, m, s, r, v);
-    e.add(y)
+    let a = rows.starts[r];
+    let v = space::get::<Binary>(m, s, a + k);
+    let x = readers::written_coeff(rows.index, rows.coeff, a, v);
+    let y = readers::row_coeff(rows.starts, w, m, s, r, v);
+    d + -x + y
 }
 
 // = binding_sum, over the row's own binaries
-fn binding_sum(
-    starts: &[usize],
-    index: &[usize],
-    coeff: &[f64],
-    cmp: &[u8],
-    rhs: &[f64],
-    w: &[f64],
-    m: &[usize],
-    s: Shape,
-    r: usize,
-    b: f64,
-) -> CDouble
+fn binding_sum(rows: Rows, w: &[f64], m: &[usize], s: Shape, r: usize, b: f64) -> CDouble
     requires r_lt_rows { (r < s.rows) × HoldsF s w.now × HoldsN s m.now × Alive (numbers_of s m.now) r }
-    requires ready { Ready (Written starts.now index.now coeff.now cmp.now rhs.now) s (floats_of s w.now) (numbers_of s m.now) }
-    ensures { Reads (Written starts.now index.now coeff.now cmp.now rhs.now) s
-        (floats_of s w.now) (numbers_of s m.now) result (bind_all r b) }
+    requires ready { Ready (Written rows) s (floats_of s w.now) (numbers_of s m.now) }
+    ensures { Reads (Written rows.entry) s (floats_of s w.now) (numbers_of s m.now) result (bind_all r b) }
 {
-    let n = space::get_binaries(m, s, r);
+    let n = space::get::<Binaries>(m, s, r);
     let mut d = CDouble::from(b);
-    let mut k = 0;
-    while k < n {
-        d = binding_term(starts, index, coeff, cmp, rhs, w, m, s, r, k, d);
-        k += 1;
+    for k in 0..n {
+        d = binding_term(rows, w, m, s, r, k, d);
     }
     d
 }
 
 // = rewritten_bound, whatever the comparison: an Eq row, which is never rewritten, is taken as a Ge row
-pub fn rewritten_bound(
-    starts: &[usize],
-    index: &[usize],
-    coeff: &[f64],
-    cmp: &[u8],
-    rhs: &[f64],
-    w: &[f64],
-    m: &[usize],
-    s: Shape,
-    r: usize,
-) -> f64
+pub fn rewritten_bound(rows: Rows, w: &[f64], m: &[usize], s: Shape, r: usize) -> f64
     requires r_lt_rows { (r < s.rows) × HoldsF s w.now × HoldsN s m.now × Alive (numbers_of s m.now) r }
-    requires ready { Ready (Written starts.now index.now coeff.now cmp.now rhs.now) s (floats_of s w.now) (numbers_of s m.now) }
-    ensures { Reads (Written starts.now index.now coeff.now cmp.now rhs.now) s
-        (floats_of s w.now) (numbers_of s m.now) result (λ M u. rewritten_bound M (row_of u r) r) }
+    requires ready { Ready (Written rows) s (floats_of s w.now) (numbers_of s m.now) }
+    ensures { Reads (Written rows.entry) s (floats_of s w.now) (numbers_of s m.now) result (λ M u. rewritten_bound M (row_of u r) r) }
 {
-    let n = space::get_binaries(m, s, r);
-    let b = rhs[r];
+    let n = space::get::<Binaries>(m, s, r);
+    let b = rows.rhs[r];
     if n == 0 {
         return b;
     }
-    let d = binding_sum(starts, index, coeff, cmp, rhs, w, m, s, r, b);
-    let kept = space::get_kept(w, s, r);
-    let op = cmp[r];
-    if op == 1 {
-        return d.add(kept).rounded(true);
+    let d = binding_sum(rows, w, m, s, r, b);
+    let kept = space::get::<Kept>(w, s, r);
+    match Comparison::from(rows.cmp[r]) {
+        Comparison::AtMost => (d + kept).rounded(true),
+        _ => (d + -kept).rounded(false),
     }
-    d.add(-kept).rounded(false)
 }

@@ -1,7 +1,36 @@
 // src/presolve/model.rs of microlp 0.7.0, changed: the records that go by value, shared by the code
-// and the definition in specs/. Fields are in camel case so that definitions name them unquoted.
+// and the definition in specs/, which names their fields as they stand here.
 
 #![tactic(auto)]
+
+// The rows as they are handed in: row r's terms are those from starts[r] up to starts[r + 1], its
+// comparison 0 for Eq, 1 for Le and 2 for Ge.
+#[derive(Clone, Copy)]
+pub struct Rows<'a> {
+    pub starts: &'a [usize],
+    pub index: &'a [usize],
+    pub coeff: &'a [f64],
+    pub cmp: &'a [u8],
+    pub rhs: &'a [f64],
+}
+
+// What a call hands in. Domains are 0 for Integer, 1 for Real and 2 for Boolean; modes 0 for Lp, 1 for
+// Mip and 2 for Mip with dual fixing: bytes, since a caller in C lends them so.
+#[derive(Clone, Copy)]
+pub struct Input<'a> {
+    pub obj: &'a [f64],
+    pub lower: &'a [f64],
+    pub upper: &'a [f64],
+    pub domain: &'a [u8],
+    pub rows: Rows<'a>,
+    pub mode: u8,
+    pub feas: f64,
+    pub int_tol: f64,
+}
+
+// What a step answers in place of a result where it finds that no point is left.
+#[derive(Clone, Copy, PartialEq, Eq, Debug)]
+pub struct Infeasible;
 
 // A row's activity over a box: the smallest and the largest sum, how many terms are infinite on each
 // side, the magnitudes summed at each corner, and how far the bound tolerances reach beyond it.

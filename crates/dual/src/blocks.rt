@@ -6,43 +6,19 @@ ghost use Rattle.definition.specs.Dual.{block_terms, none_bad};
 ghost use Rattle.space.specs.Store.{floats_of, numbers_of, HoldsF, HoldsN};
 ghost use Rattle.view.specs.Acts.{Ready};
 ghost use Rattle.view.specs.Known.{Spans};
-ghost use Rattle.dual.specs.Flags.{Flags, barred};
+ghost use Rattle.dual.specs.Flags.{Flags};
 ghost use Rattle.dual.specs.Barring.{terms_at, TermsBelow, fall_bars, rise_bars, each_row};
 
-use space::Shape;
+use space::{Alive, BadDec, BadInc, Coeffs, Hi, Len, Lo, Shape, Vars, get, put};
 
-// = none_bad, of both lists
+// = none_bad, of both lists. No `fill`: space alone knows where a block stands.
 pub(crate) fn clear_flags(m: &mut [usize], s: Shape)
     requires { HoldsN s m.old }
     ensures { Flags (numbers_of s m.old) (numbers_of s m.new) (λ l. none_bad s.vars) (λ l. none_bad s.vars) }
 {
-    let mut v = 0;
-    while v < s.vars {
-        space::put_bad_dec(m, s, v, 0);
-        space::put_bad_inc(m, s, v, 0);
-        v += 1;
-    }
-}
-
-// v is kept from falling, where b
-fn bar_fall(m: &mut [usize], s: Shape, v: usize, b: bool)
-    requires { (v < s.vars) × HoldsN s m.old }
-    ensures { Flags (numbers_of s m.old) (numbers_of s m.new) (barred b v) (λ l. l) }
-{
-    if b {
-        space::put_bad_dec(m, s, v, 1);
-        return;
-    }
-}
-
-// v is kept from rising, where b
-fn bar_rise(m: &mut [usize], s: Shape, v: usize, b: bool)
-    requires { (v < s.vars) × HoldsN s m.old }
-    ensures { Flags (numbers_of s m.old) (numbers_of s m.new) (λ l. l) (barred b v) }
-{
-    if b {
-        space::put_bad_inc(m, s, v, 1);
-        return;
+    for v in 0..s.vars {
+        put::<BadDec>(m, s, v, 0);
+        put::<BadInc>(m, s, v, 0);
     }
 }
 
@@ -54,10 +30,14 @@ fn block_term(w: &[f64], m: &mut [usize], s: Shape, i: usize, ge: bool, le: bool
         (block_terms ge le (term (get_or (numbers_of s m.old).vars i 0) (at (floats_of s w.now).coeffs i) ∷ []))
         (block_terms le ge (term (get_or (numbers_of s m.old).vars i 0) (at (floats_of s w.now).coeffs i) ∷ [])) }
 {
-    let v = space::get_var(m, s, i);
-    let x = space::get_coeff(w, s, i);
-    bar_fall(m, s, v, formulas::blocks(x, ge, le));
-    bar_rise(m, s, v, formulas::blocks(x, le, ge));
+    let v = get::<Vars>(m, s, i);
+    let x = get::<Coeffs>(w, s, i);
+    if formulas::blocks(x, ge, le) {
+        put::<BadDec>(m, s, v, 1);
+    }
+    if formulas::blocks(x, le, ge) {
+        put::<BadInc>(m, s, v, 1);
+    }
 }
 
 // = block_terms, of both lists, over the k terms from place a on
@@ -68,10 +48,8 @@ fn block_terms(w: &[f64], m: &mut [usize], s: Shape, a: usize, k: usize, ge: boo
         (block_terms ge le (terms_at (floats_of s w.now).coeffs (numbers_of s m.old).vars a k))
         (block_terms le ge (terms_at (floats_of s w.now).coeffs (numbers_of s m.old).vars a k)) }
 {
-    let mut i = 0;
-    while i < k {
+    for i in 0..k {
         block_term(w, m, s, a + i, ge, le);
-        i += 1;
     }
 }
 
@@ -83,16 +61,11 @@ fn block_row(starts: &[usize], w: &[f64], m: &mut [usize], s: Shape, r: usize)
         (fall_bars starts.now (floats_of s w.now) (numbers_of s m.old) r)
         (rise_bars starts.now (floats_of s w.now) (numbers_of s m.old) r) }
 {
-    let alive = space::get_alive(m, s, r);
-    if alive == 1 {
-        let a = starts[r];
-        let k = space::get_len(m, s, r);
-        let lo = space::get_lo(w, s, r);
-        let ge = floats::is_finite(lo);
-        let hi = space::get_hi(w, s, r);
-        let le = floats::is_finite(hi);
-        block_terms(w, m, s, a, k, ge, le);
-        return;
+    if get::<Alive>(m, s, r) == 1 {
+        let k = get::<Len>(m, s, r);
+        let ge = floats::is_finite(get::<Lo>(w, s, r));
+        let le = floats::is_finite(get::<Hi>(w, s, r));
+        block_terms(w, m, s, starts[r], k, ge, le);
     }
 }
 
@@ -104,9 +77,7 @@ pub(crate) fn block_rows(starts: &[usize], w: &[f64], m: &mut [usize], s: Shape)
         (each_row (fall_bars starts.now (floats_of s w.now) (numbers_of s m.old)) s.rows)
         (each_row (rise_bars starts.now (floats_of s w.now) (numbers_of s m.old)) s.rows) }
 {
-    let mut r = 0;
-    while r < s.rows {
+    for r in 0..s.rows {
         block_row(starts, w, m, s, r);
-        r += 1;
     }
 }

@@ -13,120 +13,90 @@ ghost use Rattle.readers.specs.Reading.{ReadsF, Domains};
 ghost use Rattle.dual.specs.Fixing.{Fixing, Dual, stays_at};
 
 use crate::blocks::{block_rows, clear_flags};
-use space::Shape;
+use space::{BadDec, BadInc, Ehi, Elo, Shape, Whi, Wlo, get};
+use view::Lists;
 
-// Whether v is left alone: fixed, or not an integer variable.
+// Whether v is left alone: fixed, or not an integer variable. The test of the bounds is formulas' `fixed_at`, as in folds, which dual
+// has no other need of.
 fn stays(domain: &[u8], w: &[f64], s: Shape, v: usize) -> bool
     requires { (v < s.vars) × (v < length domain.now) × HoldsF s w.now }
     ensures { ReadsF (Domains domain.now) s (floats_of s w.now) result (λ M u. stays_at M v u) }
 {
-    let lo = space::get_elo(w, s, v);
-    let hi = space::get_ehi(w, s, v);
-    if formulas::fixed_at(lo, hi) {
-        return true;
-    }
-    if readers::is_int(domain, s, v) {
-        return false;
-    }
-    true
+    let lo = get::<Elo>(w, s, v);
+    let hi = get::<Ehi>(w, s, v);
+    formulas::fixed_at(lo, hi) || !readers::is_int(domain, s, v)
 }
 
-// = may_fall
+// = may_fall. It and `rises` read other fields for another test: one function with a direction would be longer than both.
+#[tactic(auto, unfolding(view::specs::Shows::is_one))]
 fn falls(obj: &[f64], w: &[f64], m: &[usize], s: Shape, v: usize) -> bool
     requires { (v < s.vars) × (v < length obj.now) × HoldsF s w.now × HoldsN s m.now }
     ensures { result ≡ falls_at (get_or obj.now v nan) (is_one (get_or (numbers_of s m.now).bad_dec v 0)) (get_or (floats_of s w.now).wlo v nan) }
 {
-    let x = obj[v];
-    let b = space::get_bad_dec(m, s, v);
-    let lo = space::get_wlo(w, s, v);
-    formulas::may_fall(x, b == 1, lo)
+    let b = get::<BadDec>(m, s, v);
+    let lo = get::<Wlo>(w, s, v);
+    formulas::may_fall(obj[v], b == 1, lo)
 }
 
 // = may_rise
+#[tactic(auto, unfolding(view::specs::Shows::is_one))]
 fn rises(obj: &[f64], w: &[f64], m: &[usize], s: Shape, v: usize) -> bool
     requires { (v < s.vars) × (v < length obj.now) × HoldsF s w.now × HoldsN s m.now }
     ensures { result ≡ rises_at (get_or obj.now v nan) (is_one (get_or (numbers_of s m.now).bad_inc v 0)) (get_or (floats_of s w.now).whi v nan) }
 {
-    let x = obj[v];
-    let b = space::get_bad_inc(m, s, v);
-    let hi = space::get_whi(w, s, v);
-    formulas::may_rise(x, b == 1, hi)
+    let b = get::<BadInc>(m, s, v);
+    let hi = get::<Whi>(w, s, v);
+    formulas::may_rise(obj[v], b == 1, hi)
 }
 
-// = dual_var
-fn dual_var(
-    obj: &[f64],
-    domain: &[u8],
-    adj: &[usize],
-    w: &mut [f64],
-    m: &mut [usize],
-    s: Shape,
-    v: usize,
-    changed: bool,
-) -> bool
+// = dual_var, of no change before: whether v was fixed
+fn dual_var(obj: &[f64], lists: Lists, w: &mut [f64], m: &mut [usize], s: Shape, v: usize) -> bool
     requires v_lt_vars { (v < s.vars) × HoldsF s w.old × HoldsN s m.old }
-    requires ready { Ready (Fixing obj.now domain.now adj.now) s (floats_of s w.old) (numbers_of s m.old) }
-    ensures acts_bool { ActsBool (Fixing obj.now domain.now adj.now) s (floats_of s w.old)
+    requires ready { Ready (Fixing obj.now lists) s (floats_of s w.old) (numbers_of s m.old) }
+    ensures acts_bool { ActsBool (Fixing obj.now lists.entry) s (floats_of s w.old)
         (numbers_of s m.old) (floats_of s w.new) (numbers_of s m.new) result
-        (λ M u. dual_var M (map is_one (numbers_of s m.old).bad_dec) (map is_one (numbers_of s m.old).bad_inc) v u changed) }
+        (λ M u. dual_var M (map is_one (numbers_of s m.old).bad_dec) (map is_one (numbers_of s m.old).bad_inc) v u false) }
     ensures flags_kept { FlagsKept (numbers_of s m.old) (numbers_of s m.new) }
 {
-    if stays(domain, w, s, v) {
-        return changed;
+    if stays(lists.domain, w, s, v) {
+        return false;
     }
     if falls(obj, w, m, s, v) {
-        let lo = space::get_wlo(w, s, v);
-        bounds::fix_beside(adj, w, m, s, v, lo);
+        let lo = get::<Wlo>(w, s, v);
+        bounds::fix(lists.adj, w, m, s, v, lo);
         return true;
     }
     if rises(obj, w, m, s, v) {
-        let hi = space::get_whi(w, s, v);
-        bounds::fix_beside(adj, w, m, s, v, hi);
+        let hi = get::<Whi>(w, s, v);
+        bounds::fix(lists.adj, w, m, s, v, hi);
         return true;
     }
-    changed
+    false
 }
 
 // = dual_from, over all variables
-fn dual_vars(
-    obj: &[f64],
-    domain: &[u8],
-    adj: &[usize],
-    w: &mut [f64],
-    m: &mut [usize],
-    s: Shape,
-) -> bool
+fn dual_vars(obj: &[f64], lists: Lists, w: &mut [f64], m: &mut [usize], s: Shape) -> bool
     requires holds_f { HoldsF s w.old × HoldsN s m.old }
-    requires ready { Ready (Fixing obj.now domain.now adj.now) s (floats_of s w.old) (numbers_of s m.old) }
-    ensures { ActsBool (Fixing obj.now domain.now adj.now) s (floats_of s w.old)
+    requires ready { Ready (Fixing obj.now lists) s (floats_of s w.old) (numbers_of s m.old) }
+    ensures { ActsBool (Fixing obj.now lists.entry) s (floats_of s w.old)
         (numbers_of s m.old) (floats_of s w.new) (numbers_of s m.new) result
         (λ M u. dual_from M s.vars (map is_one (numbers_of s m.old).bad_dec) (map is_one (numbers_of s m.old).bad_inc) 0 u false) }
 {
     let mut changed = false;
-    let mut v = 0;
-    while v < s.vars {
-        changed = dual_var(obj, domain, adj, w, m, s, v, changed);
-        v += 1;
+    for v in 0..s.vars {
+        changed |= dual_var(obj, lists, w, m, s, v);
     }
     changed
 }
 
 // = dual_fix: whether something was fixed
-pub fn dual_fix(
-    obj: &[f64],
-    domain: &[u8],
-    starts: &[usize],
-    adj: &[usize],
-    w: &mut [f64],
-    m: &mut [usize],
-    s: Shape,
-) -> bool
+pub fn dual_fix(obj: &[f64], lists: Lists, w: &mut [f64], m: &mut [usize], s: Shape) -> bool
     requires holds_f { HoldsF s w.old × HoldsN s m.old }
-    requires ready { Ready (Dual obj.now domain.now starts.now adj.now) s (floats_of s w.old) (numbers_of s m.old) }
-    ensures { ActsBool (Dual obj.now domain.now starts.now adj.now) s (floats_of s w.old)
+    requires ready { Ready (Dual obj.now lists) s (floats_of s w.old) (numbers_of s m.old) }
+    ensures { ActsBool (Dual obj.now lists.entry) s (floats_of s w.old)
         (numbers_of s m.old) (floats_of s w.new) (numbers_of s m.new) result (λ M. dual_fix M) }
 {
     clear_flags(m, s);
-    block_rows(starts, w, m, s);
-    dual_vars(obj, domain, adj, w, m, s)
+    block_rows(lists.rows.starts, w, m, s);
+    dual_vars(obj, lists, w, m, s)
 }

@@ -28,22 +28,6 @@ is_out c = ltb 1 c
 unfoldable pub is_rewritten : ℕ → Bool
 is_rewritten c = ltb 2 c
 
-pub kept_one : {c : ℕ} → c ≡ 1 → true ≡ is_kept c
-unfolding is_kept
-kept_one e = rw e
-
-pub kept_other : {c : ℕ} → (c ≡ 1 → ⊥) → ltb 2 c ≡ is_kept c
-unfolding is_kept
-kept_other {c} ne = rw (ne_eqb c 1 ne)
-
-pub out_is : (c : ℕ) → ltb 1 c ≡ is_out c
-unfolding is_out
-out_is c = refl
-
-pub rewritten_is : (c : ℕ) → ltb 2 c ≡ is_rewritten c
-unfolding is_rewritten
-rewritten_is c = refl
-
 module _ (M : Model) (r : ℕ) where
   -- of a settled row
   unfoldable pub fate_of : Row → ℕ
@@ -112,6 +96,16 @@ collect_length p g (suc r) =
     let z = collect_length p g r in
     either (λ (l : List _). length l ≤ suc r) (p r) (λ e. let y = length-append (collect p g r) (g r ∷ []) in omega (arith, y, z)) (λ e. omega (arith, z))
 
+-- how many there are is by p alone
+pub collect_count : {A B : Type 0} (p : ℕ → Bool) (g : ℕ → A) (h : ℕ → B) (n : ℕ) → length (collect p g n) ≡ length (collect p h n)
+unfolding collect choose
+collect_count p g h zero = refl
+collect_count p g h (suc r) = go (p r) (collect_count p g h r)
+  where
+    go : (b : Bool) → length (collect p g r) ≡ length (collect p h r) → length (choose b (collect p g r ++ (g r ∷ [])) (collect p g r)) ≡ length (choose b (collect p h r ++ (h r ∷ [])) (collect p h r))
+    go true e = let y = length-append (collect p g r) (g r ∷ []) in let z = length-append (collect p h r) (h r ∷ []) in omega (arith, y, z, e)
+    go false e = e
+
 abbrev pub kept_at : List ℕ → ℕ → Bool
 kept_at cs r = is_kept (get_or cs r 0)
 
@@ -132,14 +126,14 @@ self r = r
 unfoldable pub side_at : List ℕ → List Float → List Float → ℕ → Float
 side_at cs bs os r = choose (rewritten_at cs r) (at bs r) (at os r)
 
-module _ (cs : List ℕ) (bs os : List Float) (r : ℕ) {c : ℕ} {k : Bool} (e : c ≡ get_or cs r 0) (f : k ≡ is_rewritten c) where
-  pub side_bound : {z : Float} → k ≡ true → z ≡ at bs r → z ≡ side_at cs bs os r
+module _ (cs : List ℕ) (bs os : List Float) (r : ℕ) where
+  pub side_bound : {z : Float} → rewritten_at cs r ≡ true → z ≡ at bs r → z ≡ side_at cs bs os r
   unfolding side_at
-  side_bound t g = g ∙ sym (yes _ _ (sym (ap is_rewritten e) ∙ sym f ∙ t))
+  side_bound t g = g ∙ sym (yes _ _ t)
 
-  pub side_given : k ≡ false → at os r ≡ side_at cs bs os r
+  pub side_given : rewritten_at cs r ≡ false → at os r ≡ side_at cs bs os r
   unfolding side_at
-  side_given t = sym (no _ _ (sym (ap is_rewritten e) ∙ sym f ∙ t))
+  side_given t = sym (no _ _ t)
 
 -- the terms of the rewritten rows below n
 unfoldable pub terms_of : List ℕ → List Row → ℕ → List Term
@@ -185,12 +179,11 @@ module _ {M : Model} {cs : List ℕ} {bs : List Float} {rows : List Row} {r : �
   terms_more e = ap (λ (l : List Term). l ++ sort_terms ((get_or rows r no_row).terms ++ (get_or rows r no_row).folded)) L.terms ∙ sym (yes _ _ e)
 
   side_written : rewritten_at cs r ≡ false → rhs_of M r ≡ side_at cs bs M.rhs r
-  unfolding side_at rhs_of
-  side_written e = sym (no _ _ e)
+  unfolding rhs_of
+  side_written e = side_given cs bs M.rhs r e
 
   side_rewritten : rewritten_at cs r ≡ true → at bs r ≡ side_at cs bs M.rhs r
-  unfolding side_at
-  side_rewritten e = sym (yes _ _ e)
+  side_rewritten e = side_bound cs bs M.rhs r e refl
 
   from_written : rewritten_at cs r ≡ false → from M r ≡ from_at cs rows M.starts r
   unfolding from_at from

@@ -1,6 +1,6 @@
 -- A result slice that is written from the front: the list l over what was there.
 use Rattle.std.specs.Prelude.{ℕ, suc, ◌+◌, ◌≤◌, ◌<◌, ◌≡◌, Bool, length, get_or, take, drop}
-use Rattle.std.proofs.Common.{arith, sym, ◌∙◌, subst, length-drop, drop-cons, take-suc, take_all, length-take-le}
+use Rattle.std.proofs.Common.{arith, sym, ◌∙◌, length-drop, drop-cons, take-suc, take_all, length-take-le}
 use Rattle.std.proofs.Math.Numerals.{add-one}
 use Rattle.std.proofs.Math.Path.{refl, ap}
 use Rattle.std.proofs.Math.Bool.{true, false}
@@ -8,7 +8,6 @@ use mathlib.Core.List.{List, [], ◌∷◌, ◌++◌}
 use Rattle.std.proofs.Math.ListN.{set, length-append}
 use Rattle.std.proofs.lemmas.List.{set_at}
 use Rattle.std.proofs.Math.Seq.{append_snoc}
-use Rattle.floats.specs.Num.{choose}
 use Rattle.view.specs.Lists.{yes, no}
 use Rattle.emit.specs.Fates.{collect, collect_length}
 
@@ -26,26 +25,10 @@ module _ {A : Type 0} where
       ap (λ (t : List A). set (l ++ t) (length l) x) (drop-cons old (length l) x p) ∙ set_at l _ (drop (suc (length l)) old) x (length l) refl
       ∙ sym (append_snoc l x (drop (suc (length l)) old)) ∙ ap (λ (k : ℕ). (l ++ (x ∷ [])) ++ drop k old) (sym n)
 
-  -- x is put at n where b says so, and counted
-  pub record PutIf (b : Bool) (x : A) (n : ℕ) (old new : List A) (z : ℕ) : Type 0 where
-    pub list : new ≡ choose b (set old n x) old
-    pub count : z ≡ choose b (suc n) n
-
   -- what p takes of the numbers below r is written, and counted
   pub record Filled (p : ℕ → Bool) (g : ℕ → A) (r : ℕ) (old new : List A) (n : ℕ) : Type 0 where
     pub list : new ≡ over (collect p g r) old
     pub count : n ≡ length (collect p g r)
-
-  -- the fate d is read as c, and p of it as k
-  pub put_taken : (p : ℕ → Bool) {c d n : ℕ} {k : Bool} {x y : A} {old : List A} → c ≡ d → k ≡ p c → k ≡ true → y ≡ x → PutIf (p d) x n old (set old n y) (n + 1)
-  put_taken p {n = n} {old = old} e f t g =
-      let z = sym (ap p e) ∙ sym f ∙ t in
-      record { list = ap (set old n) g ∙ sym (yes _ _ z); count = add-one n ∙ sym (yes _ _ z) }
-
-  pub put_left : (p : ℕ → Bool) {c d n : ℕ} {k : Bool} (x : A) {old : List A} → c ≡ d → k ≡ p c → k ≡ false → PutIf (p d) x n old old n
-  put_left p x e f t =
-      let z = sym (ap p e) ∙ sym f ∙ t in
-      record { list = sym (no _ _ z); count = sym (no _ _ z) }
 
   module _ (p : ℕ → Bool) (g : ℕ → A) where
     pub fill_start : (old : List A) → Filled p g 0 old old 0
@@ -59,28 +42,26 @@ module _ {A : Type 0} where
       pub fill_room : {k : ℕ} → r < k → k ≤ length old → n < length new
       fill_room {k} l m = let z = collect_length p g r in let y = fill_kept (omega (arith, l, m)) in omega (arith, z, y, F.count, l, m)
 
-      -- the turn, by whether r is taken
-      turn_list : (b : Bool) → length (collect p g r) < length old → choose b (set new n (g r)) new ≡ over (choose b (collect p g r ++ (g r ∷ [])) (collect p g r)) old
-      unfolding choose
-      turn_list true l = ap (λ (t : List A). set t n (g r)) F.list ∙ ap (λ (k : ℕ). set (over (collect p g r) old) k (g r)) F.count ∙ over_set (collect p g r) old (g r) l
-      turn_list false l = F.list
-
-      turn_count : (b : Bool) → choose b (suc n) n ≡ length (choose b (collect p g r ++ (g r ∷ [])) (collect p g r))
-      unfolding choose
-      turn_count true = let z = length-append (collect p g r) (g r ∷ []) in omega (arith, z, F.count)
-      turn_count false = F.count
-
-      pub fill_turn : {k : ℕ} {new' : List A} {z : ℕ} → r < k → k ≤ length old → PutIf (p r) (g r) n new new' z → Filled p g (r + 1) old new' z
+      -- r is taken
+      pub fill_one : {k : ℕ} {x : A} {new' : List A} {z : ℕ} → r < k → k ≤ length old → p r ≡ true → x ≡ g r → new' ≡ set new n x → z ≡ n + 1 → Filled p g (r + 1) old new' z
       unfolding collect
-      fill_turn {k} l m t =
-          rw add-one
-          (record {
-            list = t.list ∙ turn_list (p r) (let z = collect_length p g r in omega (arith, z, l, m));
-            count = t.count ∙ turn_count (p r);
-          })
+      fill_one l m t e a b =
+          let c : collect p g (r + 1) ≡ collect p g r ++ (g r ∷ []) = rw add-one (yes _ _ t) in
+          let y = collect_length p g r in
+          let w = length-append (collect p g r) (g r ∷ []) in
+          record {
+            list =
+                a ∙ ap (set new n) e ∙ ap (λ (q : List A). set q n (g r)) F.list ∙ ap (λ (j : ℕ). set (over (collect p g r) old) j (g r)) F.count
+                ∙ over_set (collect p g r) old (g r) (omega (arith, y, l, m)) ∙ ap (λ (q : List A). over q old) (sym c);
+            count = rw c (omega (arith, b, w, F.count));
+          }
 
-      pub fill_end : {k : ℕ} → r ≤ k → k ≤ r → Filled p g k old new n
-      fill_end {k} l m = let z : r ≡ k = omega (arith, l, m) in subst (λ (j : ℕ). Filled p g j old new n) z F
+      -- r is left
+      pub fill_none : {new' : List A} {z : ℕ} → p r ≡ false → new' ≡ new → z ≡ n → Filled p g (r + 1) old new' z
+      unfolding collect
+      fill_none t a b =
+          let c : collect p g (r + 1) ≡ collect p g r = rw add-one (no _ _ t) in
+          record { list = a ∙ F.list ∙ ap (λ (q : List A). over q old) (sym c); count = b ∙ F.count ∙ ap length (sym c) }
 
 -- ---- a whole block of n, place by place: the first v places are written
 pub record Copied {A : Type 0} (l old : List A) (n v : ℕ) (new : List A) : Type 0 where

@@ -1,14 +1,15 @@
 -- Fates written to the slices, row by row: they are those of every state that the slices show, and that state stays shown.
-use Rattle.std.specs.Prelude.{ℕ, ◌+◌, ◌-◌, ◌≤◌, ◌<◌, ◌≡◌, ◌≢◌, Bool, true, false, length, get_or, Float}
+use Rattle.std.specs.Prelude.{ℕ, ◌+◌, ◌-◌, ◌≤◌, ◌<◌, ◌≡◌, ◌≢◌, Bool, true, false, length, get_or, unwrap_or, Float}
 use Rattle.std.proofs.Common.{arith, ◌∙◌, subst, ⊎_elim}
 use Rattle.std.proofs.Math.Path.{refl, ap, sym}
 use mathlib.Core.List.{List}
 use Rattle.std.proofs.Math.Seq.{get_or-set_same, get_or-set_other}
 use Rattle.std.specs.Float.Ieee.{nan}
 use Rattle.floats.specs.Num.{is_finite}
+use Rattle.std.specs.Prelude as std
 use Rattle.tolerances.specs.Tol.{at, trivial_verdict, says_true}
-use Rattle.tolerances.specs.declared.Verdict.{Verdict}
-use Rattle.tolerances.specs.Answers.{verdict_of}
+use Rattle.tolerances.specs.Answers.{option_of, says_unwrap}
+use Rattle.definition.specs.declared.Rows.{Rows}
 use Rattle.definition.specs.Model.{Model, from, upto, nnz, op_of, rhs_of}
 use Rattle.definition.specs.Work.{Work, trivial}
 use Rattle.definition.specs.Bindings.{rewritten_bound}
@@ -29,20 +30,20 @@ use Rattle.emit.specs.Fates.{is_rewritten, fate_of, Fates}
 pub record TellsTrivial (s : Shape) (ss os : List ℕ) (bs : List Float) (r : ℕ) (z : Bool) : Type 0 where
   pub tells : (M : Model) → M.starts ≡ ss → M.cmp ≡ os → M.rhs ≡ bs → Call M s → trivial M r ≡ z
 
-pub trivial_tells : {s : Shape} {ss os : List ℕ} {bs : List Float} {r : ℕ} (t : Verdict) {z : Bool} → verdict_of t ≡ trivial_verdict s.feas (get_or os r 0)
-    (get_or ss (r + 1) 0 - get_or ss r 0) (get_or bs r nan) → z ≡ says_true (verdict_of t)
+pub trivial_tells : {s : Shape} {ss os : List ℕ} {bs : List Float} {r : ℕ} (t : std.Option Bool) {z : Bool} → option_of t ≡ trivial_verdict s.feas (get_or os r 0)
+    (get_or ss (r + 1) 0 - get_or ss r 0) (get_or bs r nan) → z ≡ unwrap_or t false
     → TellsTrivial s ss os bs r z
 unfolding trivial op_of rhs_of nnz from upto
-trivial_tells t e f = record { tells = λ M a b d c. rw (a, b, d, ← c.feas) (sym (f ∙ ap says_true e)) }
+trivial_tells t e f = record { tells = λ M a b d c. rw (a, b, d, ← c.feas) (sym (f ∙ says_unwrap t ∙ ap says_true e)) }
 
 -- what it needs of the rows as written, and has of the slices
-pub written_gives : {ss is : List ℕ} {cs : List Float} {os : List ℕ} {bs : List Float} (M : Model) → Written ss is cs os bs M → (M.starts ≡ ss) × (M.cmp ≡ os) × (M.rhs ≡ bs)
+pub written_gives : {rows : Rows} (M : Model) → Written rows M → (M.starts ≡ rows.starts.now) × (M.cmp ≡ rows.cmp.now) × (M.rhs ≡ rows.rhs.now)
 written_gives M x = (x.starts, x.cmp, x.rhs)
 
-pub ready_trivial : {ss is : List ℕ} {cs : List Float} {os : List ℕ} {bs : List Float} {s : Shape} {f : Floats} {n : Numbers} {r : ℕ} → Ready (Written ss is cs os bs) s f n → r < s.rows
-    → (r + 1 < length ss) × (r < length os) × (r < length bs) × (get_or ss r 0 ≤ get_or ss (r + 1) 0)
+pub ready_trivial : {rows : Rows} {s : Shape} {f : Floats} {n : Numbers} {r : ℕ} → Ready (Written rows) s f n → r < s.rows
+    → (r + 1 < length rows.starts.now) × (r < length rows.cmp.now) × (r < length rows.rhs.now) × (get_or rows.starts.now r 0 ≤ get_or rows.starts.now (r + 1) 0)
 unfolding from upto
-ready_trivial {ss} {r = r} R p =
+ready_trivial {r = r} R p =
     let x = R.known in
     let c = R.call in
     let q : r < length R.model.rhs = omega (arith, p, c.rows) in

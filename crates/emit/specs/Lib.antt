@@ -2,6 +2,7 @@
 pub mod Settled
 pub mod Sorted
 pub mod Fates
+pub mod FateNumbers
 pub mod Filling
 pub mod Same
 pub mod Spans

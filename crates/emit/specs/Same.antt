@@ -3,6 +3,7 @@ use Rattle.std.specs.Prelude.{ℕ, zero, suc, ◌+◌, ◌≤◌, ◌<◌, ◌�
 use Rattle.std.proofs.Common.{arith, ap, sym, ◌∙◌}
 use Rattle.std.proofs.Math.Logic.{⊎_elim}
 use Rattle.std.specs.Float.{nan}
+use Rattle.std.specs.List.{list_any, range_with_len}
 use Rattle.std.specs.Float.Ieee.{eq, ne}
 use Rattle.std.proofs.lemmas.Bool.{not-true, not-false}
 use Rattle.definition.specs.Emit.{same_bounds}
@@ -62,3 +63,20 @@ second_differs false e = refl
 
 pub none_differs : {a b : Bool} → a ≡ true → b ≡ true → false ≡ (not a || not b)
 none_differs e f = rw (e, f)
+
+-- the bounds from place v on, each tested
+abbrev pub differs : List Float → List Float → List Float → List Float → ℕ → Bool
+differs es ls fs us v = ne (get_or es v nan) (get_or ls v nan) || ne (get_or fs v nan) (get_or us v nan)
+
+module _ {es ls fs us : List Float} {n : ℕ} where
+  by_test : {v : ℕ} (S : SameTo es ls n v) (T : SameTo fs us n v) → v < n → (a b z : Bool) → ne (get_or es v nan) (get_or ls v nan) ≡ a → ne (get_or fs v nan) (get_or us v nan) ≡ b
+      → (ne (get_or es v nan) (get_or ls v nan) ≡ false → ne (get_or fs v nan) (get_or us v nan) ≡ false → z ≡ (not (same_bounds es ls) || not (same_bounds fs us)))
+      → ((a || b) || z) ≡ (not (same_bounds es ls) || not (same_bounds fs us))
+  by_test S T p true b z h j r = first_differs _ (same_differs S refl p h)
+  by_test S T p false true z h j r = second_differs _ (same_differs T refl p j)
+  by_test S T p false false z h j r = r h j
+
+  pub any_differs : (k v : ℕ) → v + k ≡ n → SameTo es ls n v → SameTo fs us n v → list_any (differs es ls fs us) (range_with_len v k) ≡ (not (same_bounds es ls) || not (same_bounds fs us))
+  any_differs zero v e S T = none_differs (same_end S (omega (arith, e))) (same_end T (omega (arith, e)))
+  any_differs (suc k) v e S T = by_test S T (omega (arith, e)) _ _ (list_any (differs es ls fs us) (range_with_len (v + 1) k)) refl refl
+      (λ h j. any_differs k (v + 1) (omega (arith, e)) (same_turn S refl h) (same_turn T refl j))

@@ -1,5 +1,5 @@
 -- The spans of emitted rows, and what the writers of spans and terms ask of the slices.
-use Rattle.std.specs.Prelude.{ℕ, zero, suc, ◌+◌, ◌-◌, ◌≤◌, ◌<◌, ◌≡◌, refl, Bool, true, false, List, length, get_or}
+use Rattle.std.specs.Prelude.{ℕ, zero, suc, ◌+◌, ◌≤◌, ◌<◌, ◌≡◌, refl, true, false, List, length, get_or}
 use Rattle.std.proofs.Common.{arith, add-one, ap, ◌∙◌}
 use Rattle.std.proofs.Math.Path.{sym}
 use Rattle.floats.specs.Num.{choose}
@@ -8,7 +8,7 @@ use Rattle.space.specs.Store.{Numbers}
 use Rattle.view.specs.Inv.{Below}
 use Rattle.view.specs.Lists.{yes, no, either}
 use Rattle.readers.specs.Coeffs.{place_of}
-use Rattle.emit.specs.Fates.{is_rewritten, rewritten_at}
+use Rattle.emit.specs.Fates.{rewritten_at}
 
 -- how many terms row r has at work, the folded ones with them
 abbrev pub count_at : Numbers → ℕ → ℕ
@@ -50,48 +50,41 @@ terms_before {ss = ss} {n} h (suc r) p =
     (λ t. let y = h.fits r (omega (arith, p)) t in omega (arith, z, e, y))
     (λ t. let y = h.rise r (omega (arith, p)) in omega (arith, z, e, y))
 
--- ---- terms_with, span_from and span_upto: the fate is read as c, and whether it is rewritten as k
-module _ (n : Numbers) (r : ℕ) {c : ℕ} {k : Bool} (e : c ≡ get_or n.fate r 0) (f : k ≡ is_rewritten c) where
-  fate_is : {b : Bool} → k ≡ b → rewritten_at n.fate r ≡ b
-  fate_is t = sym (ap is_rewritten e) ∙ sym f ∙ t
-
-  module _ {x l d : ℕ} (b : x ≡ terms_to n r) (el : l ≡ get_or n.len r 0) (ed : d ≡ get_or n.folded r 0) (t : k ≡ true) where
+-- ---- terms_with and span_of
+module _ (n : Numbers) (r : ℕ) where
+  module _ {x l d : ℕ} (b : x ≡ terms_to n r) (el : l ≡ get_or n.len r 0) (ed : d ≡ get_or n.folded r 0) (t : rewritten_at n.fate r ≡ true) where
     pub with_room : {s : Shape} {ss : List ℕ} → Spanned s ss n → r < s.rows → x + (l + d) ≤ s.terms
-    with_room h p = omega (arith, b, el, ed, terms_before h r (omega (arith, p)), h.fits r p (fate_is t), h.last r p)
+    with_room h p = omega (arith, b, el, ed, terms_before h r (omega (arith, p)), h.fits r p t, h.last r p)
 
     pub with_yes : x + (l + d) ≡ terms_to n (suc r)
     unfolding terms_to
-    with_yes = rw (b, el, ed) (sym (yes _ _ (fate_is t)))
+    with_yes = rw (b, el, ed) (sym (yes _ _ t))
 
-  pub with_no : {x : ℕ} → x ≡ terms_to n r → k ≡ false → x ≡ terms_to n (suc r)
+  pub with_no : {x : ℕ} → x ≡ terms_to n r → rewritten_at n.fate r ≡ false → x ≡ terms_to n (suc r)
   unfolding terms_to
-  with_no b t = b ∙ sym (no _ _ (fate_is t))
+  with_no b t = b ∙ sym (no _ _ t)
 
   module _ (ss : List ℕ) where
-    pub from_yes : {x : ℕ} → x ≡ terms_to n r → k ≡ true → x ≡ start_at n ss r
+    pub from_yes : {x : ℕ} → x ≡ terms_to n r → rewritten_at n.fate r ≡ true → x ≡ start_at n ss r
     unfolding start_at
-    from_yes b t = b ∙ sym (yes _ _ (fate_is t))
+    from_yes b t = b ∙ sym (yes _ _ t)
 
-    pub from_no : k ≡ false → get_or ss r 0 ≡ start_at n ss r
+    pub from_no : rewritten_at n.fate r ≡ false → get_or ss r 0 ≡ start_at n ss r
     unfolding start_at
-    from_no t = sym (no _ _ (fate_is t))
+    from_no t = sym (no _ _ t)
 
-    pub upto_yes : {x : ℕ} → x ≡ terms_to n (suc r) → k ≡ true → x ≡ end_at n ss r
+    pub upto_yes : {x : ℕ} → x ≡ terms_to n (suc r) → rewritten_at n.fate r ≡ true → x ≡ end_at n ss r
     unfolding end_at
-    upto_yes b t = b ∙ sym (yes _ _ (fate_is t))
+    upto_yes b t = b ∙ sym (yes _ _ t)
 
-    pub upto_no : k ≡ false → get_or ss (r + 1) 0 ≡ end_at n ss r
+    pub upto_no : rewritten_at n.fate r ≡ false → get_or ss (r + 1) 0 ≡ end_at n ss r
     unfolding end_at
-    upto_no t = sym (no _ _ (fate_is t))
+    upto_no t = sym (no _ _ t)
 
--- ---- write_spans: before row r
-pub record Before (n : Numbers) (rows r x : ℕ) : Type 0 where
-  pub upto : r ≤ rows
-  pub count : x ≡ terms_to n r
-
-pub before_start : {n : Numbers} {rows : ℕ} → Before n rows 0 0
+-- ---- write_spans: before the first row, and before the row after r
+pub none_before : (n : Numbers) → 0 ≡ terms_to n 0
 unfolding terms_to
-before_start = record { upto = omega arith; count = refl }
+none_before n = refl
 
-pub before_turn : {n : Numbers} {rows r x : ℕ} → r < rows → x ≡ terms_to n (suc r) → Before n rows (r + 1) x
-before_turn {n} {r = r} p e = record { upto = omega (arith, p); count = e ∙ ap (terms_to n) (sym (add-one r)) }
+pub before_next : (n : Numbers) (r : ℕ) {x : ℕ} → x ≡ terms_to n (suc r) → x ≡ terms_to n (r + 1)
+before_next n r e = e ∙ ap (terms_to n) (sym (add-one r))

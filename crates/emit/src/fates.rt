@@ -1,39 +1,76 @@
-// A row's fate as a number: 0 trivially true, 1 dropped and kept for validation, 2 emitted as written,
-// 3 emitted rewritten and kept.
-ghost use Rattle.std.specs.Prelude.{◌≡◌};
-ghost use Rattle.emit.specs.Fates as fates;
+// What becomes of a row.
+ghost use Rattle.std.specs.Prelude.{◌≡◌, ◌<◌};
 ghost use Rattle.row_terms.specs.RowMark.{mark};
+ghost use Rattle.space.specs.Store.{numbers_of, HoldsN};
+ghost use Rattle.emit.specs.FateNumbers.{fate_is, number_of, keeps, emits, rewrites, FateIs};
 
-// Whether a row of this fate is kept for validation.
-pub(crate) fn is_kept(fate: usize) -> bool
-    ensures { result ≡ fates.is_kept fate }
-{
-    if fate == 1 {
-        return true;
+use space::Shape;
+
+// A row's fate: trivially true, dropped and kept for validation, emitted as written, or emitted
+// rewritten and kept. The slice that the caller lends has it as a number, 0 to 3 in this order.
+#[derive(Clone, Copy, PartialEq, Eq)]
+pub enum Fate {
+    Trivial = 0,
+    Dropped = 1,
+    Written = 2,
+    Rewritten = 3,
+}
+
+impl From<usize> for Fate {
+    ghost from_gives = { λ number fate. fate ≡ fate_is number };
+
+    fn from(number: usize) -> Fate {
+        match number {
+            0 => Fate::Trivial,
+            1 => Fate::Dropped,
+            2 => Fate::Written,
+            _ => Fate::Rewritten,
+        }
     }
-    fate > 2
 }
 
-// Whether a row of this fate is emitted.
-pub(crate) fn is_out(fate: usize) -> bool
-    ensures { result ≡ fates.is_out fate }
-{
-    fate > 1
-}
+impl From<Fate> for usize {
+    ghost from_gives = { λ fate number. number ≡ number_of fate };
 
-// Whether a row of this fate is emitted rewritten.
-pub(crate) fn is_rewritten(fate: usize) -> bool
-    ensures { result ≡ fates.is_rewritten fate }
-{
-    fate > 2
-}
-
-// The mark of a row of this fate, where it is emitted: 0 written, 1 rewritten.
-pub(crate) fn mark_of(fate: usize) -> u8
-    ensures { result ≡ mark (fates.is_rewritten fate) }
-{
-    if is_rewritten(fate) {
-        return 1;
+    fn from(fate: Fate) -> usize {
+        fate as usize
     }
-    0
+}
+
+impl Fate {
+    // Whether a row of this fate is kept for validation.
+    pub(crate) fn is_kept(self) -> bool
+        ensures { result ≡ keeps self }
+    {
+        matches!(self, Fate::Dropped | Fate::Rewritten)
+    }
+
+    // Whether a row of this fate is emitted.
+    pub(crate) fn is_out(self) -> bool
+        ensures { result ≡ emits self }
+    {
+        matches!(self, Fate::Written | Fate::Rewritten)
+    }
+
+    // Whether a row of this fate is emitted rewritten.
+    pub(crate) fn is_rewritten(self) -> bool
+        ensures { result ≡ rewrites self }
+    {
+        matches!(self, Fate::Rewritten)
+    }
+
+    // The mark of a row of this fate, where it is emitted: 0 written, 1 rewritten.
+    pub(crate) fn mark(self) -> u8
+        ensures { result ≡ mark (rewrites self) }
+    {
+        u8::from(self.is_rewritten())
+    }
+}
+
+// The fate of row r.
+pub(crate) fn fate_of(m: &[usize], s: Shape, r: usize) -> Fate
+    requires { (r < s.rows) × HoldsN s m.now }
+    ensures { FateIs (numbers_of s m.now).fate r result }
+{
+    Fate::from(space::get::<space::Fate>(m, s, r))
 }

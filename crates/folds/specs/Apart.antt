@@ -1,7 +1,7 @@
 -- A row's stores: blocks that change at row r alone, and inside its span alone, show the other rows as before, since spans do not overlap.
 use Rattle.std.specs.Prelude.{ℕ, zero, suc, ◌+◌, ◌-◌, ◌≤◌, ◌<◌, ◌≡◌, refl, ◌≢◌, ◌⊎◌, List, length, get_or, set}
 use Rattle.std.proofs.Common.{arith, add-one, ap, ◌∙◌, inl, inr, get_or-set_other}
-use Rattle.std.proofs.Math.Option.{Option, some}
+use Rattle.std.proofs.Math.Option.{Option}
 use Rattle.tolerances.specs.Tol.{Term, at}
 use Rattle.definition.specs.Model.{Model, from, upto, nnz, Row, Binding}
 use Rattle.space.specs.declared.Shape.{Shape}

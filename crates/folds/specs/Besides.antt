@@ -1,5 +1,6 @@
 -- A row's rewritten binaries, and the magnitude of its folded terms but theirs: `fixed_besides`.
-use Rattle.std.specs.Prelude.{ℕ, suc, ◌+◌, ◌-◌, ◌≤◌, ◌<◌, ◌≡◌, refl, Bool, true, false, List, [], ◌∷◌, length, get_or, take, drop, Float}
+use Rattle.std.specs.Prelude.{ℕ, zero, suc, ◌+◌, ◌-◌, ◌≤◌, ◌<◌, ◌≡◌, refl, Bool, true, false, ◌||◌, eqb, List, [], ◌∷◌, length, get_or, take, drop, Float}
+use Rattle.std.specs.List.{list_any, range_with_len}
 use Rattle.std.proofs.Common.{arith, add-one, ap, sym, ◌∙◌, length-append, drop-cons, ext_get_or, get_or-append-add}
 use Rattle.std.proofs.Math.Option.{Option, none, some}
 use Rattle.std.proofs.Math.Seq.{drop-length}
@@ -27,14 +28,6 @@ abbrev pub listed : ℕ → ℕ → List ℕ → List ℕ
 listed a k l = take k (drop a l)
 
 -- ---- has_among
-has_yes : (u v : ℕ) (us : List ℕ) → u ≡ v → has v (u ∷ us) ≡ true
-unfolding has
-has_yes u v us e = rw (eqb_same u v e)
-
-has_no : (u v : ℕ) (us : List ℕ) → (u ≡ v → ⊥) → has v (u ∷ us) ≡ has v us
-unfolding has
-has_no u v us e = rw (eqb_differ u v e)
-
 has_none : (v : ℕ) → has v [] ≡ false
 unfolding has
 has_none v = refl
@@ -44,16 +37,18 @@ module _ (a k v : ℕ) (l : List ℕ) (long : a + k ≤ length l) where
   among_next i u q e =
       drop-cons (listed a k l) i 0 (omega (arith, q, span_length l a k long)) ∙ ap (λ (y : ℕ). y ∷ drop (suc i) (listed a k l)) (span_at l a k i 0 q ∙ sym e)
 
-  pub among_found : {i u : ℕ} → has v (drop i (listed a k l)) ≡ has v (listed a k l) → i < k → u ≡ get_or l (a + i) 0 → u ≡ v → true ≡ has v (listed a k l)
-  among_found {i} {u} h q e g = sym (sym h ∙ ap (has v) (among_next i u q e) ∙ has_yes u v _ g)
+  among_first : (i : ℕ) → i < k → (eqb (get_or l (a + i) 0) v || has v (drop (i + 1) (listed a k l))) ≡ has v (drop i (listed a k l))
+  unfolding has
+  among_first i q = rw add-one (sym (ap (has v) (among_next i _ q refl)))
 
-  pub among_more : {i u : ℕ} → has v (drop i (listed a k l)) ≡ has v (listed a k l) → i < k → u ≡ get_or l (a + i) 0 → (u ≡ v → ⊥) → has v (drop (i + 1) (listed a k l)) ≡ has v (listed a k l)
-  among_more {i} {u} h q e g = rw add-one (sym (has_no u v (drop (suc i) (listed a k l)) g) ∙ ap (has v) (sym (among_next i u q e)) ∙ h)
+  among_from : (n i : ℕ) → i + n ≡ k → list_any (λ j. eqb (get_or l (a + j) 0) v) (range_with_len i n) ≡ has v (drop i (listed a k l))
+  among_from zero i e =
+      let g : i ≡ length (listed a k l) = omega (arith, e, span_length l a k long) in
+      sym (ap (has v) (ap (λ (j : ℕ). drop j (listed a k l)) g ∙ drop-length (listed a k l)) ∙ has_none v)
+  among_from (suc n) i e = ap (λ (b : Bool). eqb (get_or l (a + i) 0) v || b) (among_from n (i + 1) (omega (arith, e))) ∙ among_first i (omega (arith, e))
 
-  pub among_end : {i : ℕ} → has v (drop i (listed a k l)) ≡ has v (listed a k l) → k ≤ i → i ≤ k → false ≡ has v (listed a k l)
-  among_end {i} h p q =
-      let e : i ≡ length (listed a k l) = omega (arith, p, q, span_length l a k long) in
-      sym (has_none v) ∙ ap (has v) (sym (drop-length (listed a k l)) ∙ ap (λ (j : ℕ). drop j (listed a k l)) (sym e)) ∙ h
+  pub among_any : list_any (λ j. eqb (get_or l (a + j) 0) v) (range_with_len 0 k) ≡ has v (listed a k l)
+  among_any = among_from k 0 (omega arith)
 
 -- ---- the block holds the binding's binaries
 start_of : {starts : List ℕ} (M : Model) (r : ℕ) → M.starts ≡ starts → get_or starts r 0 ≡ from M r

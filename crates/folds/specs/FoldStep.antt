@@ -1,5 +1,5 @@
 -- `fold_fixed`'s loop: what a turn leaves, by its three ways, and what the turns leave together.
-use Rattle.std.specs.Prelude.{ℕ, suc, ◌+◌, ◌-◌, ◌≤◌, ◌<◌, ◌≡◌, Bool, true, false, ◌&&◌, ◌||◌, eqb, length, Float}
+use Rattle.std.specs.Prelude.{ℕ, suc, ◌+◌, ◌≤◌, ◌<◌, ◌≡◌, Bool, true, false, ◌&&◌, ◌||◌, eqb, length, Float}
 use Rattle.std.proofs.Common.{arith, add-one, sym, ◌∙◌, subst, length-append}
 use Rattle.std.proofs.Math.Path.{refl, ap}
 use mathlib.Core.List.{List, [], ◌∷◌, ◌++◌}
@@ -11,6 +11,7 @@ use Rattle.tolerances.specs.Tol.{Term, term, at, zip_terms}
 use Rattle.definition.specs.Model.{Model, from, upto, nnz, written, Row, with_terms}
 use Rattle.definition.specs.Work.{Work, no_term, fixed, has_term}
 use Rattle.definition.specs.Folds.{swap_remove, fold_term, fold_step}
+use Rattle.formulas.specs.Fixing.{fixed_at}
 use Rattle.space.specs.declared.Shape.{Shape}
 use Rattle.space.specs.Store.{Floats, Numbers}
 use Rattle.view.specs.Call.{Call}
@@ -28,13 +29,9 @@ use Rattle.folds.specs.Folding.{swap_f, swap_n, push_f, push_n, shift_f, with_fo
 unfoldable pub fixed_in : Floats → ℕ → Bool
 fixed_in f v = eq (get_or f.elo v nan) (get_or f.ehi v nan) && is_finite (get_or f.elo v nan)
 
-pub fixed_yes : (f : Floats) (v : ℕ) {lo hi : Float} {z : Bool} → lo ≡ get_or f.elo v nan → hi ≡ get_or f.ehi v nan → eq lo hi ≡ true → z ≡ is_finite lo → z ≡ fixed_in f v
-unfolding fixed_in
-fixed_yes f v e₁ e₂ t ez = rw (← e₁, ← e₂, t, ez)
-
-pub fixed_no : (f : Floats) (v : ℕ) {lo hi : Float} → lo ≡ get_or f.elo v nan → hi ≡ get_or f.ehi v nan → eq lo hi ≡ false → false ≡ fixed_in f v
-unfolding fixed_in
-fixed_no f v e₁ e₂ t = rw (← e₁, ← e₂, t)
+pub fixed_both : (f : Floats) (v : ℕ) {lo hi : Float} {z : Bool} → lo ≡ get_or f.elo v nan → hi ≡ get_or f.ehi v nan → z ≡ fixed_at lo hi → z ≡ fixed_in f v
+unfolding fixed_in fixed_at
+fixed_both f v e₁ e₂ ez = rw (← e₁, ← e₂) ez
 
 -- of a state whose emitted bounds stand there
 pub fixed_is : (f : Floats) (w : Work) (v : ℕ) → f.elo ≡ w.elo → f.ehi ≡ w.ehi → fixed w v ≡ fixed_in f v

@@ -1,7 +1,7 @@
 -- One term leaves a row, in the slices: the last live term moves into its place, and a folded one goes to the back of the span.
 use Rattle.std.specs.Prelude.{ℕ, suc, ◌+◌, ◌-◌, ◌≤◌, ◌<◌, ◌≡◌, refl, ◌≢◌, ◌⊎◌, List, [], ◌∷◌, ◌++◌, length, get_or, set, Float}
 use Rattle.std.proofs.Common.{arith, ap, sym, ◌∙◌, inl, inr, length-set, length-take, length-append, get_or-set_same, get_or-set_other, get_or-take}
-use Rattle.std.proofs.Math.Option.{Option, some}
+use Rattle.std.proofs.Math.Option.{Option}
 use Rattle.std.proofs.Math.ListN.{get_or-append}
 use Rattle.std.proofs.lemmas.List.{get_or_at}
 use Rattle.std.specs.Float.{nan}

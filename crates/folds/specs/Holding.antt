@@ -1,5 +1,5 @@
 -- `hold_rewrites` and `fold_fixed`, which call each other: their ways, and the number that falls.
-use Rattle.std.specs.Prelude.{ℕ, zero, suc, ◌+◌, ◌≤◌, ◌<◌, ◌≡◌, refl, Bool, false, not, ◌&&◌, List, length, get_or, Float}
+use Rattle.std.specs.Prelude.{ℕ, zero, suc, ◌+◌, ◌≤◌, ◌<◌, ◌≡◌, refl, Bool, false, not, ◌&&◌, length, get_or, Float}
 use Rattle.std.proofs.Common.{arith, ◌∙◌, lt→ltb}
 use Rattle.std.proofs.Math.Path.{ap, sym, subst}
 use Rattle.std.proofs.Math.Bool.{true}
@@ -7,6 +7,7 @@ use Rattle.std.proofs.Math.Option.{Option, none, some}
 use Rattle.std.proofs.Math.Dec.{T, ltb→lt}
 use Rattle.std.specs.Float.{nan}
 use Rattle.floats.specs.Num.{is_finite}
+use Rattle.definition.specs.declared.Rows.{Rows}
 use Rattle.definition.specs.Model.{Model, Row, Binding, as_written}
 use Rattle.definition.specs.Work.{Work}
 use Rattle.definition.specs.Folds.{fold_loop, bound?, gives_back, relax_binding, hold_rewrites, fold_fixed}
@@ -62,31 +63,31 @@ standing_after {F = F} G t k =
 abbrev pub looped : Model → Work → Row → Row
 looped M w x = (fold_loop (length x.terms) w (0, x)).1
 
-module _ {starts index : List ℕ} {coeff : List Float} {cmp : List ℕ} {rhs : List Float} {s : Shape} {r : ℕ} {f : Floats} {n : Numbers} (G : Standing (Written starts index coeff cmp rhs) s r f n) where
-  pub given : Given (Written starts index coeff cmp rhs) s
+module _ {rows : Rows} {s : Shape} {r : ℕ} {f : Floats} {n : Numbers} (G : Standing (Written rows) s r f n) where
+  pub given : Given (Written rows) s
   given = record { model = G.model; known = G.known; call = G.call }
 
-  pub in_spans : Standing (Spans starts) s r f n
+  pub in_spans : Standing (Spans rows.starts.now) s r f n
   in_spans = standing_under written_spans G
 
-  pub after_loop : {f₁ : Floats} {n₁ : Numbers} → Turns (Spans starts) s r f n f₁ n₁ looped → Standing (Written starts index coeff cmp rhs) s r f₁ n₁
+  pub after_loop : {f₁ : Floats} {n₁ : Numbers} → Turns (Spans rows.starts.now) s r f n f₁ n₁ looped → Standing (Written rows) s r f₁ n₁
   after_loop t = standing_after G (turns_under written_spans t) (folds_kept (loop_folds G.work G.row))
 
-  pub after_relax : {f₁ : Floats} {n₁ : Numbers} → Turns (Spans starts) s r f n f₁ n₁ relax_binding → Standing (Written starts index coeff cmp rhs) s r f₁ n₁
+  pub after_relax : {f₁ : Floats} {n₁ : Numbers} → Turns (Spans rows.starts.now) s r f n f₁ n₁ relax_binding → Standing (Written rows) s r f₁ n₁
   after_relax t = standing_after G (turns_under written_spans t) (relax_kept G.model r G.work G.row)
 
   -- folding leaves the binding
-  pub loop_weight : {f₁ : Floats} {n₁ : Numbers} → Turns (Spans starts) s r f n f₁ n₁ looped → weight (get_or n₁.binaries r 0) ≡ weight (get_or n.binaries r 0)
+  pub loop_weight : {f₁ : Floats} {n₁ : Numbers} → Turns (Spans rows.starts.now) s r f n f₁ n₁ looped → weight (get_or n₁.binaries r 0) ≡ weight (get_or n.binaries r 0)
   loop_weight {f₁} {n₁} t =
       let d = loop_folds G.work G.row in
       let o = t.does G.model G.work G.row (written_spans G.model G.known) G.call G.stands in
       weight_is (o.now (d.alive ∙ G.stands.alive)).binding ∙ ap weight_of d.binding ∙ sym (weight_is G.stands.shown.binding)
 
-  module _ {f₁ : Floats} {n₁ : Numbers} (W : Writes (Written starts index coeff cmp rhs) s r f n f₁ n₁ (λ M. as_written M r)) where
+  module _ {f₁ : Floats} {n₁ : Numbers} (W : Writes (Written rows) s r f n f₁ n₁ (λ M. as_written M r)) where
     back : OneRow G.model r (as_written G.model r) f n f₁ n₁
     back = W.does G.model G.known G.call
 
-    pub after_written : r < s.rows → Standing (Written starts index coeff cmp rhs) s r f₁ n₁
+    pub after_written : r < s.rows → Standing (Written rows) s r f₁ n₁
     after_written p =
         record {
           model = G.model;

@@ -5,7 +5,7 @@ use Rattle.std.proofs.Math.Path.{ap, subst}
 use Rattle.std.proofs.Math.Option.{Option, none, some}
 use Rattle.std.proofs.Math.ListN.{length}
 use Rattle.floats.specs.Num.{choose, ◌⊕◌, ◌⊖◌, gt, is_finite}
-use Rattle.definition.specs.Model.{Model, nnz, written, Row, Binding, with_range, with_binding, as_written}
+use Rattle.definition.specs.Model.{Model, nnz, Row, Binding, with_range, with_binding, as_written}
 use Rattle.definition.specs.Work.{Work, with_row, no_row}
 use Rattle.definition.specs.Folds.{fold_loop, bound?, gives_back, with_kept, widen, rewrite_room, fixed_besides, relax_with, relax_binding, given_back, hold_rewrites, fold_fixed}
 use Rattle.space.specs.declared.Shape.{Shape}

@@ -1,11 +1,10 @@
 -- `relax_binding`: what a binding keeps grows with the folded terms, and the bound that it keeps grows with it.
-use Rattle.std.specs.Prelude.{ℕ, ◌-◌, ◌<◌, ◌≡◌, refl, Bool, true, false, List, length, get_or, Float}
+use Rattle.std.specs.Prelude.{ℕ, ◌<◌, ◌≡◌, refl, Bool, true, false, List, length, get_or, Float}
 use Rattle.std.proofs.Common.{arith, ap, sym, ◌∙◌, subst, get_or-set_same}
 use Rattle.std.proofs.Math.Option.{Option, none, some}
 use Rattle.std.specs.Float.{nan}
 use Rattle.std.specs.Float.Ieee.{lt}
 use Rattle.floats.specs.Num.{choose, ◌⊕◌, ◌⊖◌, gt, is_finite}
-use Rattle.tolerances.specs.Tol.{at}
 use Rattle.definition.specs.Model.{Model, from, upto, Row, Binding, with_range, with_binding}
 use Rattle.definition.specs.Work.{Work}
 use Rattle.definition.specs.Folds.{widen, with_kept, rewrite_room, fixed_besides, relax_with, relax_binding}

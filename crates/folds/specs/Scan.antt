@@ -23,7 +23,7 @@ use Rattle.folds.specs.FoldStep.{fixed_in, fixed_is}
 unfoldable pub leaves_at : Floats → Numbers → ℕ → Bool
 leaves_at f n i = eq (get_or f.coeffs i nan) 0f || fixed_in f (get_or n.vars i 0)
 
-pub leaves_zero : (f : Floats) (n : Numbers) (i : ℕ) {x : Float} → x ≡ get_or f.coeffs i nan → eq x 0f ≡ true → true ≡ leaves_at f n i
+pub leaves_zero : (f : Floats) (n : Numbers) (i : ℕ) {x : Float} → x ≡ get_or f.coeffs i nan → eq x 0f ≡ true → eq x 0f ≡ leaves_at f n i
 unfolding leaves_at
 leaves_zero f n i e t = rw (← e, t)
 

@@ -1,14 +1,18 @@
 -- The row as written, put into the slices: `Row::as_written`.
-use Rattle.std.specs.Prelude.{ℕ, zero, suc, ◌+◌, ◌-◌, ◌≤◌, ◌<◌, ◌≡◌, refl, ◌≢◌, ◌⊎◌, true, false, eqb, length, set, take, drop, Float}
-use Rattle.std.proofs.Common.{arith, ◌∙◌, subst, inl, inr, length-take, length-drop, get_or-set_other, get_or-take, get_or-drop}
+use Rattle.std.specs.Prelude.{ℕ, zero, suc, ◌+◌, ◌-◌, ◌≤◌, ◌<◌, ◌≡◌, refl, ◌≢◌, ◌⊎◌, Bool, true, false, eqb, length, set, take, drop, Float}
+use Rattle.std.proofs.Common.{arith, T, eqb→eq, ◌∙◌, subst, inl, inr, length-take, length-drop, get_or-set_other, get_or-take, get_or-drop}
 use Rattle.std.proofs.Math.Path.{ap, sym}
 use mathlib.Core.List.{List, [], ◌∷◌}
 use Rattle.std.proofs.Math.Dec.{eqb-suc-suc, eqb-suc-zero, eqb-zero-suc}
 use Rattle.std.proofs.Math.ListN.{get_or}
 use Rattle.std.proofs.Math.Seq.{get_or-set_same}
-use Rattle.std.specs.Float.Ieee.{nan, neg, of_bits}
+use Rattle.std.specs.Float.Ieee.{nan}
 use Rattle.floats.specs.Num.{choose, 0f, ∞f, -∞f}
 use Rattle.tolerances.specs.Tol.{term, at, zip_terms}
+use Rattle.tolerances.specs.declared.Comparison.{Comparison}
+use Rattle.tolerances.specs.declared.Comparison.TheVariants.{Equal, AtMost, AtLeast}
+use Rattle.tolerances.specs.Answers.{comparison_of}
+use Rattle.definition.specs.declared.Rows.{Rows}
 use Rattle.definition.specs.Model.{Model, from, upto, nnz, written, op_of, rhs_of, Row, as_written}
 use Rattle.definition.specs.Work.{no_term}
 use Rattle.space.specs.declared.Shape.{Shape}
@@ -16,7 +20,7 @@ use Rattle.space.specs.Store.{Floats, Numbers, put_lo, put_hi, put_fold_scale, p
 use Rattle.view.specs.Call.{Call}
 use Rattle.view.specs.Shows.{is_one, Parts, parts_of, TermShown, unbound, RowShown}
 use Rattle.view.specs.Known.{Written}
-use Rattle.view.specs.Lists.{yes, no, one_is, zero_is}
+use Rattle.view.specs.Lists.{one_is, zero_is}
 use Rattle.view.specs.Rows.{same?, OneRow}
 use Rattle.folds.specs.Apart.{Apart, elsewhere, untouched, outside, nnz_is, other_shown}
 use Rattle.folds.specs.Sized.{Sized}
@@ -40,16 +44,27 @@ pub record Given (P : Model → Type 0) (s : Shape) : Type 0 where
   pub known : P model
   pub call : Call model s
 
--- ---- a side by its comparison, as the tests say it
-pub side_yes : (x k : ℕ) {A : Type 0} (u v : A) → x ≡ k → u ≡ choose (eqb x k) u v
-side_yes x k u v e = sym (yes u v (eqb_same x k e))
+-- ---- the two sides by the comparison and the right side b
+abbrev pub sides_of : ℕ → Float → Float × Float
+sides_of op b = (choose (eqb op 1) -∞f b, choose (eqb op 2) ∞f b)
 
-pub side_no : (x k : ℕ) {A : Type 0} (u v : A) → (x ≡ k → ⊥) → v ≡ choose (eqb x k) u v
-side_no x k u v e = sym (no u v (eqb_differ x k e))
+abbrev pub sides_by : Comparison → Float → Float × Float
+sides_by Equal b = (b, b)
+sides_by AtMost b = (-∞f, b)
+sides_by AtLeast b = (b, ∞f)
 
-pub below_inf : {x : Float} → x ≡ ∞f → neg x ≡ -∞f
-unfolding neg of_bits
-below_inf e = ap neg e
+pub sides_byte : (op : ℕ) (b : Float) → sides_by (comparison_of op) b ≡ sides_of op b
+unfolding comparison_of choose
+sides_byte op b = go (eqb op 1) (eqb op 2) (λ p q. omega (arith, eqb→eq op 1 p, eqb→eq op 2 q))
+  where
+    go : (u v : Bool) → (T u → T v → ⊥) → sides_by (choose u AtMost (choose v AtLeast Equal)) b ≡ (choose u -∞f b, choose v ∞f b)
+    go true true h = absurd (h tt tt)
+    go true false h = refl
+    go false true h = refl
+    go false false h = refl
+
+pub sides_in : (op : ℕ) (b : Float) {c d : Comparison} → c ≡ comparison_of op → c ≡ d → sides_by d b ≡ sides_of op b
+sides_in op b e g = ap (λ (u : Comparison). sides_by u b) (sym g ∙ e) ∙ sides_byte op b
 
 -- what such a function promises: row r shows X, and the rest shows what it did
 pub record Writes (P : Model → Type 0) (s : Shape) (r : ℕ) (f : Floats) (n : Numbers) (f' : Floats) (n' : Numbers) (X : Model → Row) : Type 0 where
@@ -206,47 +221,47 @@ pub marks_put_lem : (r k : ℕ) (n : Numbers) {n₁ n₂ n₃ n₄ n₅ : Number
     → n₄ ≡ put_touched r 0 n₃ → n₅ ≡ put_binaries r 0 n₄ → n₅ ≡ marks_put r k n
 marks_put_lem r k n e₁ e₂ e₃ e₄ e₅ = rw (e₅, e₄, e₃, e₂, e₁)
 
-module _ {s : Shape} {starts index : List ℕ} {coeff : List Float} {cmp : List ℕ} {rhs : List Float} where
+module _ {s : Shape} {rows : Rows} where
   -- what the read-only slices hold of row r
-  module _ (G : Given (Written starts index coeff cmp rhs) s) {r : ℕ} (p : r < s.rows) where
+  module _ (G : Given (Written rows) s) {r : ℕ} (p : r < s.rows) where
     abbrev M₀ : Model
     M₀ = G.model
 
     in_rows : r < length M₀.rhs
     in_rows = omega (arith, p, G.call.rows)
 
-    pub starts_long : s.rows + 1 ≤ length starts
+    pub starts_long : s.rows + 1 ≤ length rows.starts.now
     starts_long = omega (arith, ap length G.known.starts, G.call.starts, G.call.rows)
 
-    pub cmp_long : s.rows ≤ length cmp
+    pub cmp_long : s.rows ≤ length rows.cmp.now
     cmp_long = omega (arith, ap length G.known.cmp, G.call.cmps, G.call.rows)
 
-    pub rhs_long : s.rows ≤ length rhs
+    pub rhs_long : s.rows ≤ length rows.rhs.now
     rhs_long = omega (arith, ap length G.known.rhs, G.call.rows)
 
-    pub index_long : s.terms ≤ length index
+    pub index_long : s.terms ≤ length rows.index.now
     index_long = omega (arith, ap length G.known.index, G.call.terms)
 
-    pub coeff_long : s.terms ≤ length coeff
+    pub coeff_long : s.terms ≤ length rows.coeff.now
     coeff_long = omega (arith, ap length G.known.coeff, G.call.terms, G.call.coeffs)
 
-    from_is : from M₀ r ≡ get_or starts r 0
+    from_is : from M₀ r ≡ get_or rows.starts.now r 0
     unfolding from
     from_is = ap (λ (l : List ℕ). get_or l r 0) G.known.starts
 
-    upto_is : upto M₀ r ≡ get_or starts (r + 1) 0
+    upto_is : upto M₀ r ≡ get_or rows.starts.now (r + 1) 0
     unfolding upto
     upto_is = ap (λ (l : List ℕ). get_or l (r + 1) 0) G.known.starts
 
-    pub span_rises : get_or starts r 0 ≤ get_or starts (r + 1) 0
+    pub span_rises : get_or rows.starts.now r 0 ≤ get_or rows.starts.now (r + 1) 0
     span_rises = omega (arith, from_is, upto_is, G.call.rise r in_rows)
 
-    pub span_within : get_or starts (r + 1) 0 ≤ s.terms
+    pub span_within : get_or rows.starts.now (r + 1) 0 ≤ s.terms
     span_within = omega (arith, upto_is, G.call.last r in_rows, G.call.terms)
 
-  module _ {r a e : ℕ} {lo hi : Float} {f f₁ : Floats} {n n₁ : Numbers} (p : r < s.rows) (z : Sized s f n) (ea : a ≡ get_or starts r 0) (ee : e ≡ get_or starts (r + 1) 0)
-      (el : lo ≡ choose (eqb (get_or cmp r 0) 1) -∞f (get_or rhs r nan)) (eh : hi ≡ choose (eqb (get_or cmp r 0) 2) ∞f (get_or rhs r nan)) (h : Copied index coeff a e f n f₁ n₁) where
-    module _ (M : Model) (k : Written starts index coeff cmp rhs M) (c : Call M s) where
+  module _ {r a e : ℕ} {lo hi : Float} {f f₁ : Floats} {n n₁ : Numbers} (p : r < s.rows) (z : Sized s f n) (ea : a ≡ get_or rows.starts.now r 0) (ee : e ≡ get_or rows.starts.now (r + 1) 0)
+      (es : (lo, hi) ≡ sides_of (get_or rows.cmp.now r 0) (get_or rows.rhs.now r nan)) (h : Copied rows.index.now rows.coeff.now a e f n f₁ n₁) where
+    module _ (M : Model) (k : Written rows M) (c : Call M s) where
       l : r < length M.rhs
       l = omega (arith, p, c.rows)
 
@@ -260,11 +275,11 @@ module _ {s : Shape} {starts index : List ℕ} {coeff : List Float} {cmp : List 
 
       lo_is : lo ≡ (as_written M r).lo
       unfolding as_written op_of rhs_of
-      lo_is = rw (k.cmp, k.rhs) el
+      lo_is = rw (k.cmp, k.rhs) (ap (λ (u : Float × Float). u.0) es)
 
       hi_is : hi ≡ (as_written M r).hi
       unfolding as_written op_of rhs_of
-      hi_is = rw (k.cmp, k.rhs) eh
+      hi_is = rw (k.cmp, k.rhs) (ap (λ (u : Float × Float). u.1) es)
 
       abbrev parts : Parts
       parts = parts_of (sides_put r lo hi (with_coeffs h.new_coeffs f)) (marks_put r (e - a) (with_vars h.new_vars n))
@@ -319,7 +334,7 @@ module _ {s : Shape} {starts index : List ℕ} {coeff : List Float} {cmp : List 
       unfolding as_written
       alive_now = ap is_one (get_or-set_same n.alive r 1 0 (omega (arith, p, z.alive))) ∙ one_is
 
-    pub as_written_end : {f₂ : Floats} {n₂ : Numbers} → f₂ ≡ sides_put r lo hi f₁ → n₂ ≡ marks_put r (e - a) n₁ → Writes (Written starts index coeff cmp rhs) s r f n f₂ n₂ (λ M. as_written M r)
+    pub as_written_end : {f₂ : Floats} {n₂ : Numbers} → f₂ ≡ sides_put r lo hi f₁ → n₂ ≡ marks_put r (e - a) n₁ → Writes (Written rows) s r f n f₂ n₂ (λ M. as_written M r)
     as_written_end ef en =
         record {
           does = λ M k c. rw (ef, en, h.floats, h.numbers)

@@ -9,22 +9,14 @@ ghost use Rattle.view.specs.Known.{Spans};
 ghost use Rattle.folds.specs.Stands.{Standing, StandingN, Tells, TellsN};
 ghost use Rattle.folds.specs.Besides.{listed, binaries_of, besides};
 
-use space::Shape;
+use space::{Binaries, Binary, Coeffs, Elo, Folded, Shape, Vars};
 
 // Whether v is among the k binaries from place a on.
 fn has_among(m: &[usize], s: Shape, a: usize, k: usize, v: usize) -> bool
     requires { (a + k ≤ s.terms) × HoldsN s m.now }
     ensures { result ≡ work.has v (listed a k (numbers_of s m.now).binary) }
 {
-    let mut i: usize = 0;
-    while i < k {
-        let u = space::get_binary(m, s, a + i);
-        if u == v {
-            return true;
-        }
-        i += 1;
-    }
-    false
+    (0..k).any(|i| space::get::<Binary>(m, s, a + i) == v)
 }
 
 // Whether v is one of row r's rewritten binaries.
@@ -33,9 +25,7 @@ pub fn has_binary(starts: &[usize], m: &[usize], s: Shape, r: usize, v: usize) -
     requires standing_n { StandingN (Spans starts.now) s r (numbers_of s m.now) }
     ensures { TellsN (Spans starts.now) s r (numbers_of s m.now) result (λ M w x. work.has v (binaries_of x.binding)) }
 {
-    let a = starts[r];
-    let k = space::get_binaries(m, s, r);
-    has_among(m, s, a, k, v)
+    has_among(m, s, starts[r], space::get::<Binaries>(m, s, r), v)
 }
 
 // The folded term at place i, added where its variable is none of the k binaries from place a on.
@@ -45,13 +35,11 @@ fn fixed_term(w: &[f64], m: &[usize], s: Shape, a: usize, k: usize, i: usize, su
     ensures { result ≡ besides (listed a k (numbers_of s m.now).binary) sum (get_or (numbers_of s m.now).vars i 0)
         (get_or (floats_of s w.now).coeffs i nan) (get_or (floats_of s w.now).elo (get_or (numbers_of s m.now).vars i 0) nan) }
 {
-    let v = space::get_var(m, s, i);
+    let v = space::get::<Vars>(m, s, i);
     if has_among(m, s, a, k, v) {
         return sum;
     }
-    let x = space::get_coeff(w, s, i);
-    let y = space::get_elo(w, s, v);
-    sum + floats::absolute(x * y)
+    sum + floats::absolute(space::get::<Coeffs>(w, s, i) * space::get::<Elo>(w, s, v))
 }
 
 // = fixed_besides, of the row's own binding.
@@ -62,13 +50,11 @@ pub fn fixed_besides(starts: &[usize], w: &[f64], m: &[usize], s: Shape, r: usiz
 {
     let a = starts[r];
     let e = starts[r + 1];
-    let k = space::get_binaries(m, s, r);
-    let n = space::get_folded(m, s, r);
-    let mut sum: f64 = 0.0;
-    let mut j: usize = 0;
-    while j < n {
+    let k = space::get::<Binaries>(m, s, r);
+    let n = space::get::<Folded>(m, s, r);
+    let mut sum = 0.0;
+    for j in 0..n {
         sum = fixed_term(w, m, s, a, k, e - (j + 1), sum);
-        j += 1;
     }
     sum
 }

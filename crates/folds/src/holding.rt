@@ -10,67 +10,41 @@ ghost use Rattle.folds.specs.Holding.{Holds};
 use crate::folding::fold_loop;
 use crate::relaxing::relax_binding;
 use crate::written::as_written;
-use space::Shape;
+use definition::Rows;
+use space::{Binaries, Folded, Hi, Lo, Shape};
 
 // = hold_rewrites: whether the row was given back. It is then folded with no binding.
 #[cycle(fold_fixed_hold_rewrites)]
-pub fn hold_rewrites(
-    starts: &[usize],
-    index: &[usize],
-    coeff: &[f64],
-    cmp: &[u8],
-    rhs: &[f64],
-    w: &mut [f64],
-    m: &mut [usize],
-    s: Shape,
-    r: usize,
-) -> bool
+pub fn hold_rewrites(rows: Rows, w: &mut [f64], m: &mut [usize], s: Shape, r: usize) -> bool
     requires r_lt_rows { (r < s.rows) × HoldsF s w.old × HoldsN s m.old }
-    requires standing { Standing (Written starts.now index.now coeff.now cmp.now rhs.now) s r (floats_of s w.old) (numbers_of s m.old) }
-    ensures { Holds (Written starts.now index.now coeff.now cmp.now rhs.now) s r
+    requires standing { Standing (Written rows) s r (floats_of s w.old) (numbers_of s m.old) }
+    ensures { Holds (Written rows.entry) s r
         (floats_of s w.old) (numbers_of s m.old) (floats_of s w.new) (numbers_of s m.new) result }
 {
-    let k = space::get_binaries(m, s, r);
-    if k == 0 {
+    if space::get::<Binaries>(m, s, r) == 0
+        || floats::is_finite(space::get::<Lo>(w, s, r))
+        || floats::is_finite(space::get::<Hi>(w, s, r))
+    {
         return false;
     }
-    let lo = space::get_lo(w, s, r);
-    if floats::is_finite(lo) {
-        return false;
-    }
-    let hi = space::get_hi(w, s, r);
-    if floats::is_finite(hi) {
-        return false;
-    }
-    as_written(starts, index, coeff, cmp, rhs, w, m, s, r);
-    fold_fixed(starts, index, coeff, cmp, rhs, w, m, s, r);
+    as_written(rows, w, m, s, r);
+    fold_fixed(rows, w, m, s, r);
     true
 }
 
 // = fold_fixed
 #[cycle(fold_fixed_hold_rewrites)]
-pub(crate) fn fold_fixed(
-    starts: &[usize],
-    index: &[usize],
-    coeff: &[f64],
-    cmp: &[u8],
-    rhs: &[f64],
-    w: &mut [f64],
-    m: &mut [usize],
-    s: Shape,
-    r: usize,
-)
+pub(crate) fn fold_fixed(rows: Rows, w: &mut [f64], m: &mut [usize], s: Shape, r: usize)
     requires r_lt_rows { (r < s.rows) × HoldsF s w.old × HoldsN s m.old }
-    requires standing { Standing (Written starts.now index.now coeff.now cmp.now rhs.now) s r (floats_of s w.old) (numbers_of s m.old) }
-    ensures { Turns (Written starts.now index.now coeff.now cmp.now rhs.now) s r
+    requires standing { Standing (Written rows) s r (floats_of s w.old) (numbers_of s m.old) }
+    ensures { Turns (Written rows.entry) s r
         (floats_of s w.old) (numbers_of s m.old) (floats_of s w.new) (numbers_of s m.new) (λ M. fold_fixed M r) }
 {
-    let before = space::get_folded(m, s, r);
-    fold_loop(starts, w, m, s, r);
-    let after = space::get_folded(m, s, r);
+    let before = space::get::<Folded>(m, s, r);
+    fold_loop(rows.starts, w, m, s, r);
+    let after = space::get::<Folded>(m, s, r);
     if before < after {
-        relax_binding(starts, w, m, s, r);
-        hold_rewrites(starts, index, coeff, cmp, rhs, w, m, s, r);
-        return;
+        relax_binding(rows.starts, w, m, s, r);
+        hold_rewrites(rows, w, m, s, r);
     }
 }

@@ -8,20 +8,21 @@ ghost use Rattle.folds.specs.Stands.{Standing, Turns};
 ghost use Rattle.folds.specs.Relaxing.{Widens};
 
 use crate::besides::fixed_besides;
-use space::Shape;
+use space::{Binaries, Hi, Kept, Lo, Rewritten, Shape, Written};
 
 // = widen
+#[tactic(auto, using(crate::specs::Relaxing::widen_hi, crate::specs::Relaxing::widen_lo, space::specs::Blocks::hi_length, space::specs::Blocks::lo_length))]
 fn widen(w: &mut [f64], s: Shape, r: usize, kept: f64, old: f64)
     requires { (r < s.rows) × HoldsF s w.old }
     ensures { Widens s r kept old (floats_of s w.old) (floats_of s w.new) }
 {
-    let hi = space::get_hi(w, s, r);
+    let hi = space::get::<Hi>(w, s, r);
     if floats::is_finite(hi) {
-        space::put_hi(w, s, r, hi + (kept - old));
-        return;
+        space::put::<Hi>(w, s, r, hi + (kept - old));
+    } else {
+        let lo = space::get::<Lo>(w, s, r);
+        space::put::<Lo>(w, s, r, lo - (kept - old));
     }
-    let lo = space::get_lo(w, s, r);
-    space::put_lo(w, s, r, lo - (kept - old));
 }
 
 // = relax_binding
@@ -30,18 +31,16 @@ pub(crate) fn relax_binding(starts: &[usize], w: &mut [f64], m: &[usize], s: Sha
     requires standing { Standing (Spans starts.now) s r (floats_of s w.old) (numbers_of s m.now) }
     ensures { Turns (Spans starts.now) s r (floats_of s w.old) (numbers_of s m.now) (floats_of s w.new) (numbers_of s m.now) relax_binding }
 {
-    let k = space::get_binaries(m, s, r);
-    if k == 0 {
+    if space::get::<Binaries>(m, s, r) == 0 {
         return;
     }
     let fixed = fixed_besides(starts, w, m, s, r);
-    let written = space::get_written(w, s, r);
-    let rewritten = space::get_rewritten(w, s, r);
+    let written = space::get::<Written>(w, s, r);
+    let rewritten = space::get::<Rewritten>(w, s, r);
     let kept = formulas::rewrite_room(s.feas, written, rewritten, fixed);
-    let old = space::get_kept(w, s, r);
+    let old = space::get::<Kept>(w, s, r);
     if kept > old {
-        space::put_kept(w, s, r, kept);
+        space::put::<Kept>(w, s, r, kept);
         widen(w, s, r, kept, old);
-        return;
     }
 }

@@ -1,9 +1,9 @@
 -- Whether a row forces its variables, by the ways through the code.
-use Rattle.std.specs.Prelude.{ℕ, suc, ◌+◌, ◌-◌, ◌≤◌, ◌<◌, ◌≡◌, refl, Bool, true, false, ◌&&◌, List, [], ◌∷◌, length, get_or, drop, Float}
-use Rattle.std.proofs.Common.{arith, add-one, ap, sym, ◌∙◌, drop_of_length-le, drop-cons}
+use Rattle.std.specs.Prelude.{ℕ, suc, ◌+◌, ◌-◌, ◌≤◌, ◌<◌, ◌≡◌, refl, ◌⊎◌, Bool, true, false, ◌&&◌, List, [], ◌∷◌, length, get_or, drop, Float}
+use Rattle.std.proofs.Common.{arith, add-one, ap, sym, ◌∙◌, inl, inr, drop_of_length-le, drop-cons}
 use Rattle.std.specs.Float.{nan}
 use borrow.Author.Tests.{eq-eqb, ne_eqb}
-use Rattle.floats.specs.Num.{◌⊖◌}
+use Rattle.floats.specs.Num.{choose, ◌⊖◌}
 use Rattle.tolerances.specs.Tol.{Term, term}
 use Rattle.definition.specs.declared.Activity.{Activity}
 use Rattle.definition.specs.Model.{Model, is_int}
@@ -15,25 +15,32 @@ use Rattle.space.specs.Store.{Floats, Numbers}
 use Rattle.formulas.specs.declared.Limits.{Limits}
 use Rattle.formulas.specs.Bare.{bare, Says, near_min_of, near_max_of, mag_l_of, mag_u_of}
 use Rattle.formulas.specs.Forcing.{forced_by, forced_of, sliver_fits, forcing_of}
+use Rattle.view.specs.declared.Lists.{Lists}
 use Rattle.view.specs.Call.{Call}
 use Rattle.view.specs.Shows.{Shows}
 use Rattle.view.specs.Inv.{Inv}
 use Rattle.view.specs.Acts.{Ready, Reads}
 use Rattle.view.specs.Known.{Spans}
+use Rattle.view.specs.Lists.{yes, no}
 use Rattle.view.specs.Bounds.{elo_is, ehi_is}
 use Rattle.readers.specs.Reading.{row_of, Alive, ReadsF, ReadsM, Domains}
 use Rattle.readers.specs.Limits.{ReadsLimits}
 use Rattle.readers.specs.RowAt.{row_at, row_ready, live_place}
-use Rattle.rows.specs.Knowing.{Looks, looks_spans, looks_domains, of_call}
+use Rattle.rows.specs.Knowing.{Looks, looks_spans, looks_domains, of_limits}
+
+-- x is of row r, as the floats and the rows' spans have it
+pub record LimitsOf (lists : Lists) (s : Shape) (f : Floats) (r : ℕ) (x : Limits) : Type 0 where
+  pub read : ReadsLimits s f r x.terms x
+  pub written : x.terms ≡ get_or lists.rows.starts.now (r + 1) 0 - get_or lists.rows.starts.now r 0
 
 -- ---- forced_term
-pub forced_is : {ds ss : List ℕ} {s : Shape} {f : Floats} (r v : ℕ) (a sliver mag : Float) {l : ℕ} {int z : Bool} {lo hi : Float}
-    → l ≡ get_or ss (r + 1) 0 - get_or ss r 0 → ReadsM (Domains ds) s int (λ M. is_int M v)
-    → lo ≡ get_or f.elo v nan → hi ≡ get_or f.ehi v nan → Says s.feas l z (λ M q. forced_by M q int a lo hi sliver mag) → ReadsF (Looks ds ss) s f z (λ M w. forced_term M r sliver mag w (term v a))
-forced_is r v a sliver mag el ei e₁ e₂ ez =
+pub forced_is : {lists : Lists} {s : Shape} {f : Floats} (r v : ℕ) (a sliver mag : Float) {x : Limits} {k : ℕ} {int z : Bool} {lo hi : Float}
+    → ReadsLimits s f r k x → k ≡ get_or lists.rows.starts.now (r + 1) 0 - get_or lists.rows.starts.now r 0 → ReadsM (Domains lists.domain.now) s int (λ M. is_int M v)
+    → lo ≡ get_or f.elo v nan → hi ≡ get_or f.ehi v nan → Says x.feas x.terms z (λ M q. forced_by M q int a lo hi sliver mag) → ReadsF (Looks lists) s f z (λ M w. forced_term M r sliver mag w (term v a))
+forced_is r v a sliver mag lim ek ei e₁ e₂ ez =
     record {
       reads = λ M n o k w p c h i.
-          sym (forced_of M r sliver mag w (term v a)) ∙ cc (ei.reads M (looks_domains M p) c, elo_is v h e₁, ehi_is v h e₂, ez.of M r (of_call c (looks_spans M p) el));
+          sym (forced_of M r sliver mag w (term v a)) ∙ cc (ei.reads M (looks_domains M p) c, elo_is v h e₁, ehi_is v h e₂, ez.of M r (of_limits lim c (looks_spans M p) ek));
     }
 
 -- ---- all_forced
@@ -51,17 +58,17 @@ pub live_small : {P : Model → Type 0} {s : Shape} {f : Floats} {n : Numbers} {
 live_small {i = i} R q p a el il = omega (arith, live_place R q p a {j = i} (omega (arith, el, il)), (row_ready R q p a).small)
 
 -- the terms from i on are left
-pub record Testing (ds ss : List ℕ) (s : Shape) (f : Floats) (n : Numbers) (r : ℕ) (sliver mag : Float) (i : ℕ) : Type 0 where
-  pub rest : (M : Model) (o : List ℕ) (k : ℕ) (w : Work) → Looks ds ss M → Call M s → Shows M f n o w → Inv M k w
+pub record Testing (lists : Lists) (s : Shape) (f : Floats) (n : Numbers) (r : ℕ) (sliver mag : Float) (i : ℕ) : Type 0 where
+  pub rest : (M : Model) (o : List ℕ) (k : ℕ) (w : Work) → Looks lists M → Call M s → Shows M f n o w → Inv M k w
       → all_forced M r sliver mag w (drop i (row_of w r).terms) ≡ all_forced M r sliver mag w (row_of w r).terms
 
-pub testing_start : {ds ss : List ℕ} {s : Shape} {f : Floats} {n : Numbers} {r : ℕ} {sliver mag : Float} → Testing ds ss s f n r sliver mag 0
+pub testing_start : {lists : Lists} {s : Shape} {f : Floats} {n : Numbers} {r : ℕ} {sliver mag : Float} → Testing lists s f n r sliver mag 0
 testing_start = record { rest = λ M o k w p c h i. refl }
 
-module _ {ds ss : List ℕ} {s : Shape} {f : Floats} {n : Numbers} {r : ℕ} {sliver mag : Float} {i : ℕ} (p : r < s.rows) (a : Alive n r) (T : Testing ds ss s f n r sliver mag i) where
-  module _ {l v : ℕ} {y : Float} {b : Bool} (el : l ≡ get_or n.len r 0) (il : i < l) (ev : v ≡ get_or n.vars (get_or ss r 0 + i) 0) (ey : y ≡ get_or f.coeffs (get_or ss r 0 + i) nan)
-      (t : ReadsF (Looks ds ss) s f b (λ M w. forced_term M r sliver mag w (term v y))) where
-    left_is : {M : Model} {o : List ℕ} {k : ℕ} {w : Work} → Looks ds ss M → Call M s → Shows M f n o w → Inv M k w
+module _ {lists : Lists} {s : Shape} {f : Floats} {n : Numbers} {r : ℕ} {sliver mag : Float} {i : ℕ} (p : r < s.rows) (a : Alive n r) (T : Testing lists s f n r sliver mag i) where
+  module _ {l v : ℕ} {y : Float} {b : Bool} (el : l ≡ get_or n.len r 0) (il : i < l) (ev : v ≡ get_or n.vars (get_or lists.rows.starts.now r 0 + i) 0) (ey : y ≡ get_or f.coeffs (get_or lists.rows.starts.now r 0 + i) nan)
+      (t : ReadsF (Looks lists) s f b (λ M w. forced_term M r sliver mag w (term v y))) where
+    left_is : {M : Model} {o : List ℕ} {k : ℕ} {w : Work} → Looks lists M → Call M s → Shows M f n o w → Inv M k w
         → (b && all_forced M r sliver mag w (drop (suc i) (row_of w r).terms)) ≡ all_forced M r sliver mag w (row_of w r).terms
     left_is {M} {o} {k} {w} q c h j =
         let ts = (row_of w r).terms in
@@ -76,7 +83,7 @@ module _ {ds ss : List ℕ} {s : Shape} {f : Floats} {n : Numbers} {r : ℕ} {sl
         ∙ ap (all_forced M r sliver mag w) (sym (drop-cons ts i no_term m ∙ ap (λ (x : Term). x ∷ drop (suc i) ts) bt))
         ∙ T.rest M o k w q c h j
 
-    pub testing_turn : b ≡ true → Testing ds ss s f n r sliver mag (i + 1)
+    pub testing_turn : b ≡ true → Testing lists s f n r sliver mag (i + 1)
     testing_turn e =
         record {
           rest = λ M o k w q c h j.
@@ -84,13 +91,13 @@ module _ {ds ss : List ℕ} {s : Shape} {f : Floats} {n : Numbers} {r : ℕ} {sl
               ap (λ (x : ℕ). all_forced M r sliver mag w (drop x ts)) (add-one i) ∙ ap (λ (x : Bool). x && all_forced M r sliver mag w (drop (suc i) ts)) (sym e) ∙ left_is q c h j;
         }
 
-    pub testing_fails : b ≡ false → Reads (Looks ds ss) s f n false (λ M w. all_forced M r sliver mag w (row_of w r).terms)
+    pub testing_fails : b ≡ false → Reads (Looks lists) s f n false (λ M w. all_forced M r sliver mag w (row_of w r).terms)
     testing_fails e =
         record {
           reads = λ M o k w q c h j. sym (left_is q c h j) ∙ ap (λ (x : Bool). x && all_forced M r sliver mag w (drop (suc i) (row_of w r).terms)) e;
         }
 
-  pub testing_end : {l : ℕ} → l ≡ get_or n.len r 0 → l ≤ i → Reads (Looks ds ss) s f n true (λ M w. all_forced M r sliver mag w (row_of w r).terms)
+  pub testing_end : {l : ℕ} → l ≡ get_or n.len r 0 → l ≤ i → Reads (Looks lists) s f n true (λ M w. all_forced M r sliver mag w (row_of w r).terms)
   testing_end el il =
       record {
         reads = λ M o k w q c h j.
@@ -101,38 +108,40 @@ module _ {ds ss : List ℕ} {s : Shape} {f : Floats} {n : Numbers} {r : ℕ} {sl
       }
 
 -- ---- forcing_at
-fits_is : {ds ss : List ℕ} {s : Shape} (r : ℕ) (sliver mag : Float) {l : ℕ} {b : Bool} {M : Model} (w : Work) (ts : List Term)
-    → l ≡ get_or ss (r + 1) 0 - get_or ss r 0 → Says s.feas l b (λ M q. sliver_fits M q sliver mag) → Looks ds ss M → Call M s
-    → forcing_at M r sliver mag w ts ≡ (b && all_forced M r sliver mag w ts)
-fits_is r sliver mag {M = M} w ts el eb p c = sym (forcing_of M r sliver mag w ts) ∙ ap (λ (x : Bool). x && all_forced M r sliver mag w ts) (sym (eb.of M r (of_call c (looks_spans M p) el)))
+module _ {lists : Lists} {s : Shape} {f : Floats} (r : ℕ) (sliver mag : Float) {x : Limits} {k : ℕ} {b : Bool} (lim : ReadsLimits s f r k x)
+    (ek : k ≡ get_or lists.rows.starts.now (r + 1) 0 - get_or lists.rows.starts.now r 0) (eb : Says x.feas x.terms b (λ M q. sliver_fits M q sliver mag)) where
+  fits_is : {M : Model} (w : Work) (ts : List Term) → Looks lists M → Call M s → forcing_at M r sliver mag w ts ≡ (b && all_forced M r sliver mag w ts)
+  fits_is {M} w ts p c = sym (forcing_of M r sliver mag w ts) ∙ ap (λ (y : Bool). y && all_forced M r sliver mag w ts) (sym (eb.of M r (of_limits lim c (looks_spans M p) ek)))
 
-module _ {ds ss : List ℕ} {s : Shape} {f : Floats} {n : Numbers} (r : ℕ) (sliver mag : Float) {l : ℕ} {b : Bool} (el : l ≡ get_or ss (r + 1) 0 - get_or ss r 0)
-    (eb : Says s.feas l b (λ M q. sliver_fits M q sliver mag)) where
-  pub forcing_not : b ≡ false → Reads (Looks ds ss) s f n false (λ M w. forcing_at M r sliver mag w (row_of w r).terms)
-  forcing_not e = record { reads = λ M o k w p c h i. fits_is r sliver mag w (row_of w r).terms el eb p c ∙ ap (λ (x : Bool). x && all_forced M r sliver mag w (row_of w r).terms) e }
+  pub forcing_not : {n : Numbers} → b ≡ false → Reads (Looks lists) s f n false (λ M w. forcing_at M r sliver mag w (row_of w r).terms)
+  forcing_not e = record { reads = λ M o k w p c h i. fits_is w (row_of w r).terms p c ∙ ap (λ (y : Bool). y && all_forced M r sliver mag w (row_of w r).terms) e }
 
-  pub forcing_all : {z : Bool} → b ≡ true → Reads (Looks ds ss) s f n z (λ M w. all_forced M r sliver mag w (row_of w r).terms) → Reads (Looks ds ss) s f n z
+  pub forcing_all : {n : Numbers} {z : Bool} → b ≡ true → Reads (Looks lists) s f n z (λ M w. all_forced M r sliver mag w (row_of w r).terms) → Reads (Looks lists) s f n z
       (λ M w. forcing_at M r sliver mag w (row_of w r).terms)
   forcing_all e t =
-      record { reads = λ M o k w p c h i. fits_is r sliver mag w (row_of w r).terms el eb p c ∙ ap (λ (x : Bool). x && all_forced M r sliver mag w (row_of w r).terms) e ∙ t.reads M o k w p c h i }
+      record { reads = λ M o k w p c h i. fits_is w (row_of w r).terms p c ∙ ap (λ (y : Bool). y && all_forced M r sliver mag w (row_of w r).terms) e ∙ t.reads M o k w p c h i }
 
 -- ---- forces_min and forces_max
-module _ {ds ss : List ℕ} {s : Shape} {f : Floats} {n : Numbers} (r : ℕ) (act e : Activity) {x : Limits} {l : ℕ} {b : Bool} (a : Alive n r)
-    (lim : ReadsLimits s f r x) (el : l ≡ get_or ss (r + 1) 0 - get_or ss r 0) where
-  module _ (eb : Says s.feas l b (λ M q. near_min M q (bare x) act)) where
-    near_min_is : {M : Model} {o : List ℕ} {w : Work} → Looks ds ss M → Call M s → Shows M f n o w → near_min M r (row_of w r) act ≡ b
-    near_min_is {M} {o} {w} p c h = sym (eb.of M r (of_call c (looks_spans M p) el) ∙ near_min_of M r act (lim.has M n o w c h a))
+module _ {lists : Lists} {s : Shape} {f : Floats} {n : Numbers} (r : ℕ) (act e : Activity) {x : Limits} {l : ℕ} {b : Bool} (a : Alive n r)
+    (lim : ReadsLimits s f r l x) (el : l ≡ get_or lists.rows.starts.now (r + 1) 0 - get_or lists.rows.starts.now r 0) where
+  module _ (eb : Says x.feas x.terms b (λ M q. near_min M q (bare x) act)) where
+    near_min_is : {M : Model} {o : List ℕ} {w : Work} → Looks lists M → Call M s → Shows M f n o w → near_min M r (row_of w r) act ≡ b
+    near_min_is {M} {o} {w} p c h = sym (eb.of M r (of_limits lim c (looks_spans M p) el) ∙ near_min_of M r act (lim.has M n o w c h a))
 
-    pub min_far : b ≡ false → Reads (Looks ds ss) s f n false (λ M w. forces_min M r (row_of w r) act e w)
+    pub min_far : b ≡ false → Reads (Looks lists) s f n false (λ M w. forces_min M r (row_of w r) act e w)
     unfolding forces_min
     min_far t = record { reads = λ M o k w p c h i. rw (near_min_is p c h ∙ t) }
 
-    pub min_open : b ≡ true → (e.ninf_l ≡ 0 → ⊥) → Reads (Looks ds ss) s f n false (λ M w. forces_min M r (row_of w r) act e w)
+    pub min_open : b ≡ true → (e.ninf_l ≡ 0 → ⊥) → Reads (Looks lists) s f n false (λ M w. forces_min M r (row_of w r) act e w)
     unfolding forces_min
     min_open t u = record { reads = λ M o k w p c h i. rw (near_min_is p c h ∙ t, ne_eqb e.ninf_l 0 u) }
 
-    pub min_at : {mag : Float} {z : Bool} → b ≡ true → e.ninf_l ≡ 0 → mag ≡ mag_l (bare x) e → Reads (Looks ds ss) s f n z
-        (λ M w. forcing_at M r (x.hi ⊖ e.l) mag w (row_of w r).terms) → Reads (Looks ds ss) s f n z (λ M w. forces_min M r (row_of w r) act e w)
+    pub min_not : ((b ≡ true) × (e.ninf_l ≡ 0 → ⊥)) ⊎ (b ≡ false) → Reads (Looks lists) s f n false (λ M w. forces_min M r (row_of w r) act e w)
+    min_not (inl (t, u)) = min_open t u
+    min_not (inr t) = min_far t
+
+    pub min_at : {mag : Float} {z : Bool} → b ≡ true → e.ninf_l ≡ 0 → mag ≡ mag_l (bare x) e → Reads (Looks lists) s f n z
+        (λ M w. forcing_at M r (x.hi ⊖ e.l) mag w (row_of w r).terms) → Reads (Looks lists) s f n z (λ M w. forces_min M r (row_of w r) act e w)
     unfolding forces_min
     min_at {mag} t u g d =
         record {
@@ -142,20 +151,24 @@ module _ {ds ss : List ℕ} {s : Shape} {f : Floats} {n : Numbers} (r : ℕ) (ac
               rw (near_min_is p c h ∙ t, eq-eqb e.ninf_l 0 u, ← y, ← q.hi) (d.reads M o k w p c h i);
         }
 
-  module _ (eb : Says s.feas l b (λ M q. near_max M q (bare x) act)) where
-    near_max_is : {M : Model} {o : List ℕ} {w : Work} → Looks ds ss M → Call M s → Shows M f n o w → near_max M r (row_of w r) act ≡ b
-    near_max_is {M} {o} {w} p c h = sym (eb.of M r (of_call c (looks_spans M p) el) ∙ near_max_of M r act (lim.has M n o w c h a))
+  module _ (eb : Says x.feas x.terms b (λ M q. near_max M q (bare x) act)) where
+    near_max_is : {M : Model} {o : List ℕ} {w : Work} → Looks lists M → Call M s → Shows M f n o w → near_max M r (row_of w r) act ≡ b
+    near_max_is {M} {o} {w} p c h = sym (eb.of M r (of_limits lim c (looks_spans M p) el) ∙ near_max_of M r act (lim.has M n o w c h a))
 
-    pub max_far : b ≡ false → Reads (Looks ds ss) s f n false (λ M w. forces_max M r (row_of w r) act e w)
+    pub max_far : b ≡ false → Reads (Looks lists) s f n false (λ M w. forces_max M r (row_of w r) act e w)
     unfolding forces_max
     max_far t = record { reads = λ M o k w p c h i. rw (near_max_is p c h ∙ t) }
 
-    pub max_open : b ≡ true → (e.ninf_u ≡ 0 → ⊥) → Reads (Looks ds ss) s f n false (λ M w. forces_max M r (row_of w r) act e w)
+    pub max_open : b ≡ true → (e.ninf_u ≡ 0 → ⊥) → Reads (Looks lists) s f n false (λ M w. forces_max M r (row_of w r) act e w)
     unfolding forces_max
     max_open t u = record { reads = λ M o k w p c h i. rw (near_max_is p c h ∙ t, ne_eqb e.ninf_u 0 u) }
 
-    pub max_at : {mag : Float} {z : Bool} → b ≡ true → e.ninf_u ≡ 0 → mag ≡ mag_u (bare x) e → Reads (Looks ds ss) s f n z
-        (λ M w. forcing_at M r (e.u ⊖ x.lo) mag w (row_of w r).terms) → Reads (Looks ds ss) s f n z (λ M w. forces_max M r (row_of w r) act e w)
+    pub max_not : ((b ≡ true) × (e.ninf_u ≡ 0 → ⊥)) ⊎ (b ≡ false) → Reads (Looks lists) s f n false (λ M w. forces_max M r (row_of w r) act e w)
+    max_not (inl (t, u)) = max_open t u
+    max_not (inr t) = max_far t
+
+    pub max_at : {mag : Float} {z : Bool} → b ≡ true → e.ninf_u ≡ 0 → mag ≡ mag_u (bare x) e → Reads (Looks lists) s f n z
+        (λ M w. forcing_at M r (e.u ⊖ x.lo) mag w (row_of w r).terms) → Reads (Looks lists) s f n z (λ M w. forces_max M r (row_of w r) act e w)
     unfolding forces_max
     max_at {mag} t u g d =
         record {
@@ -164,3 +177,11 @@ module _ {ds ss : List ℕ} {s : Shape} {f : Floats} {n : Numbers} (r : ℕ) (ac
               let y : mag ≡ mag_u (row_of w r) e = g ∙ mag_u_of e q in
               rw (near_max_is p c h ∙ t, eq-eqb e.ninf_u 0 u, ← y, ← q.lo) (d.reads M o k w p c h i);
         }
+
+-- by the corner
+module _ {P : Model → Type 0} {s : Shape} {f : Floats} {n : Numbers} {z minCorner : Bool} (F G : Model → Work → Bool) where
+  pub at_min : minCorner ≡ true → Reads P s f n z F → Reads P s f n z (λ M w. choose minCorner (F M w) (G M w))
+  at_min e t = record { reads = λ M o k w p c h i. yes _ _ e ∙ t.reads M o k w p c h i }
+
+  pub at_max : minCorner ≡ false → Reads P s f n z G → Reads P s f n z (λ M w. choose minCorner (F M w) (G M w))
+  at_max e t = record { reads = λ M o k w p c h i. no _ _ e ∙ t.reads M o k w p c h i }

@@ -10,4 +10,4 @@ mod fixing;
 mod tests;
 
 pub use fixing::fix_all;
-pub use tests::{forces_max, forces_min};
+pub use tests::forces;

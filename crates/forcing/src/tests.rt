@@ -1,64 +1,70 @@
 // `forcing_fixings` of src/presolve/work.rs of microlp 0.7.0, changed: whether a row forces all of its
 // variables, a test of each term over the emitted bounds.
 ghost use Rattle.std.specs.Prelude.{◌<◌, length};
+ghost use Rattle.floats.specs.Num.{choose};
 ghost use Rattle.tolerances.specs.Tol.{term};
 ghost use Rattle.definition.specs.Forcing as definition;
 ghost use Rattle.space.specs.Store.{floats_of, numbers_of, HoldsF, HoldsN};
 ghost use Rattle.view.specs.Acts.{Ready, Reads};
 ghost use Rattle.readers.specs.Reading.{row_of, Alive, ReadsF};
-ghost use Rattle.rows.specs.Knowing.{Looks, SpanAt};
+ghost use Rattle.rows.specs.Knowing.{Looks};
+ghost use Rattle.forcing.specs.Forced.{LimitsOf};
 
 use definition::Activity;
-use space::Shape;
+use formulas::Limits;
+use space::{Coeffs, Ehi, Elo, Len, Shape, Vars, get};
+use view::Lists;
 
-// = forced_term
+// How far the corner of a row is short of the row's bound, and the magnitude that was summed for it.
+#[derive(Clone, Copy)]
+struct Sliver {
+    gap: f64,
+    mag: f64,
+}
+
+// = forced_term. lists, w, s and r are every step's (space says why they stay apart), x and sliver the row's. v and a, one term, are
+// read out of two slices and asked for by different calls.
 fn forced_term(
-    domain: &[u8],
-    starts: &[usize],
+    lists: Lists,
     w: &[f64],
     s: Shape,
     r: usize,
+    x: Limits,
+    sliver: Sliver,
     v: usize,
     a: f64,
-    sliver: f64,
-    mag: f64,
 ) -> bool
-    requires v_lt_vars { (v < s.vars) × HoldsF s w.now × (v < length domain.now) }
-    requires span_at { SpanAt starts.now r }
-    ensures { ReadsF (Looks domain.now starts.now) s (floats_of s w.now) result (λ M u. definition.forced_term M r sliver mag u (term v a)) }
+    requires v_lt_vars { (v < s.vars) × HoldsF s w.now × (v < length lists.domain.now) }
+    requires limits { LimitsOf lists s (floats_of s w.now) r x }
+    ensures { ReadsF (Looks lists.entry) s (floats_of s w.now) result (λ M u. definition.forced_term M r sliver.gap sliver.mag u (term v a)) }
 {
-    let n = rows::written_terms(starts, r);
-    let int = readers::is_int(domain, s, v);
-    let lo = space::get_elo(w, s, v);
-    let hi = space::get_ehi(w, s, v);
-    formulas::forced(s.feas, n, int, a, lo, hi, sliver, mag)
+    let int = readers::is_int(lists.domain, s, v);
+    let lo = get::<Elo>(w, s, v);
+    let hi = get::<Ehi>(w, s, v);
+    x.forced(int, a, lo, hi, sliver.gap, sliver.mag)
 }
 
-// = all_forced
+// = all_forced. A loop and no `all`, whose closure would have to state forced_term's `requires` again.
 fn all_forced(
-    domain: &[u8],
-    starts: &[usize],
+    lists: Lists,
     w: &[f64],
     m: &[usize],
     s: Shape,
     r: usize,
-    sliver: f64,
-    mag: f64,
+    x: Limits,
+    sliver: Sliver,
 ) -> bool
     requires r_lt_rows { (r < s.rows) × HoldsF s w.now × HoldsN s m.now × Alive (numbers_of s m.now) r }
-    requires ready { Ready (Looks domain.now starts.now) s (floats_of s w.now) (numbers_of s m.now) }
-    ensures { Reads (Looks domain.now starts.now) s (floats_of s w.now) (numbers_of s m.now) result
-        (λ M u. definition.all_forced M r sliver mag u (row_of u r).terms) }
+    requires ready { Ready (Looks lists) s (floats_of s w.now) (numbers_of s m.now) }
+    requires limits { LimitsOf lists s (floats_of s w.now) r x }
+    ensures { Reads (Looks lists.entry) s (floats_of s w.now) (numbers_of s m.now) result
+        (λ M u. definition.all_forced M r sliver.gap sliver.mag u (row_of u r).terms) }
 {
-    let a = starts[r];
-    let n = space::get_len(m, s, r);
-    let mut i: usize = 0;
-    while i < n {
-        let v = space::get_var(m, s, a + i);
-        let c = space::get_coeff(w, s, a + i);
-        if forced_term(domain, starts, w, s, r, v, c, sliver, mag) {
-            i += 1;
-        } else {
+    let a = lists.rows.starts[r];
+    for i in 0..get::<Len>(m, s, r) {
+        let v = get::<Vars>(m, s, a + i);
+        let c = get::<Coeffs>(w, s, a + i);
+        if !forced_term(lists, w, s, r, x, sliver, v, c) {
             return false;
         }
     }
@@ -67,79 +73,59 @@ fn all_forced(
 
 // = forcing_at
 fn forcing_at(
-    domain: &[u8],
-    starts: &[usize],
+    lists: Lists,
     w: &[f64],
     m: &[usize],
     s: Shape,
     r: usize,
-    sliver: f64,
-    mag: f64,
+    x: Limits,
+    sliver: Sliver,
 ) -> bool
     requires r_lt_rows { (r < s.rows) × HoldsF s w.now × HoldsN s m.now × Alive (numbers_of s m.now) r }
-    requires ready { Ready (Looks domain.now starts.now) s (floats_of s w.now) (numbers_of s m.now) }
-    ensures { Reads (Looks domain.now starts.now) s (floats_of s w.now) (numbers_of s m.now) result
-        (λ M u. definition.forcing_at M r sliver mag u (row_of u r).terms) }
+    requires ready { Ready (Looks lists) s (floats_of s w.now) (numbers_of s m.now) }
+    requires limits { LimitsOf lists s (floats_of s w.now) r x }
+    ensures { Reads (Looks lists.entry) s (floats_of s w.now) (numbers_of s m.now) result
+        (λ M u. definition.forcing_at M r sliver.gap sliver.mag u (row_of u r).terms) }
 {
-    let n = rows::written_terms(starts, r);
-    if formulas::sliver_fits(s.feas, n, sliver, mag) {
-        return all_forced(domain, starts, w, m, s, r, sliver, mag);
-    }
-    false
+    x.sliver_fits(sliver.gap, sliver.mag) && all_forced(lists, w, m, s, r, x, sliver)
 }
 
-// = forces_min
-pub fn forces_min(
-    domain: &[u8],
-    starts: &[usize],
+// = forces_min of the minimum corner, forces_max of the maximum corner: a bool, as the definition's `corner` has it. lists, w, m, s
+// and r are every step's (space says why they stay apart); act and e are the row's two activities.
+// The corners' blocks stand beside each other: all that they read, near_min and near_max, l and u, hi and lo, differs.
+pub fn forces(
+    lists: Lists,
     w: &[f64],
     m: &[usize],
     s: Shape,
     r: usize,
+    minCorner: bool,
     act: Activity,
     e: Activity,
 ) -> bool
     requires r_lt_rows { (r < s.rows) × HoldsF s w.now × HoldsN s m.now × Alive (numbers_of s m.now) r }
-    requires ready { Ready (Looks domain.now starts.now) s (floats_of s w.now) (numbers_of s m.now) }
-    ensures { Reads (Looks domain.now starts.now) s (floats_of s w.now) (numbers_of s m.now) result
-        (λ M u. definition.forces_min M r (row_of u r) act e u) }
+    requires ready { Ready (Looks lists) s (floats_of s w.now) (numbers_of s m.now) }
+    ensures { Reads (Looks lists.entry) s (floats_of s w.now) (numbers_of s m.now) result
+        (λ M u. choose minCorner (definition.forces_min M r (row_of u r) act e u) (definition.forces_max M r (row_of u r) act e u)) }
 {
-    let x = readers::limits(w, s, r);
-    let n = rows::written_terms(starts, r);
-    if formulas::near_min(s.feas, n, x, act) {
-        if e.ninf_l == 0 {
-            let mag = formulas::mag_l(x, e);
-            return forcing_at(domain, starts, w, m, s, r, x.hi - e.l, mag);
+    let x = readers::limits(w, s, r, rows::written_terms(lists.rows.starts, r));
+    if minCorner {
+        if x.near_min(act) && e.ninf_l == 0 {
+            let sliver = Sliver {
+                gap: x.hi - e.l,
+                mag: x.mag_l(e),
+            };
+            forcing_at(lists, w, m, s, r, x, sliver)
+        } else {
+            false
         }
-        return false;
+    } else if x.near_max(act) && e.ninf_u == 0 {
+        let sliver = Sliver {
+            gap: e.u - x.lo,
+            mag: x.mag_u(e),
+        };
+        forcing_at(lists, w, m, s, r, x, sliver)
+    } else {
+        false
     }
-    false
-}
-
-// = forces_max
-pub fn forces_max(
-    domain: &[u8],
-    starts: &[usize],
-    w: &[f64],
-    m: &[usize],
-    s: Shape,
-    r: usize,
-    act: Activity,
-    e: Activity,
-) -> bool
-    requires r_lt_rows { (r < s.rows) × HoldsF s w.now × HoldsN s m.now × Alive (numbers_of s m.now) r }
-    requires ready { Ready (Looks domain.now starts.now) s (floats_of s w.now) (numbers_of s m.now) }
-    ensures { Reads (Looks domain.now starts.now) s (floats_of s w.now) (numbers_of s m.now) result
-        (λ M u. definition.forces_max M r (row_of u r) act e u) }
-{
-    let x = readers::limits(w, s, r);
-    let n = rows::written_terms(starts, r);
-    if formulas::near_max(s.feas, n, x, act) {
-        if e.ninf_u == 0 {
-            let mag = formulas::mag_u(x, e);
-            return forcing_at(domain, starts, w, m, s, r, e.u - x.lo, mag);
-        }
-        return false;
-    }
-    false
 }

@@ -9,11 +9,11 @@ use Rattle.definition.specs.Work.{Work, budget}
 use Rattle.definition.specs.Forcing.{corner, forced_term, all_forced, forcing_at}
 
 unfoldable pub corner_of : Bool → Float → Float → Float → Float
-corner_of minCorner a elo ehi = choose (choose (lt a 0f) minCorner (not minCorner)) ehi elo
+corner_of min_corner a elo ehi = choose (choose (lt a 0f) min_corner (not min_corner)) ehi elo
 
-pub corner_of_lem : (minCorner : Bool) (w : Work) (t : Term) → corner_of minCorner t.coeff (at w.elo t.var) (at w.ehi t.var) ≡ corner minCorner w t
+pub corner_of_lem : (min_corner : Bool) (w : Work) (t : Term) → corner_of min_corner t.coeff (at w.elo t.var) (at w.ehi t.var) ≡ corner min_corner w t
 unfolding corner_of corner
-corner_of_lem minCorner w t = refl
+corner_of_lem min_corner w t = refl
 
 module _ (M : Model) (r : ℕ) where
   unfoldable pub forced_by : Bool → Float → Float → Float → Float → Float → Bool

@@ -1,8 +1,9 @@
 -- A term's implied bound from one side of its row, by numbers alone.
-use Rattle.std.specs.Prelude.{◌≡◌, ℕ, Bool, not, Float}
+use Rattle.std.specs.Prelude.{◌≡◌, ℕ, Bool, not, ◌&&◌, eqb, Float, None, Some}
+use Rattle.std.specs.Prelude as std
 use Rattle.std.proofs.Math.Path.{refl}
 use Rattle.std.proofs.Math.Option.{Option, none, some}
-use Rattle.floats.specs.Num.{choose, ◌⊕◌, ◌⊖◌, ◌⊗◌, ◌⊘◌, gt, 0f, abs, maxf}
+use Rattle.floats.specs.Num.{choose, ◌⊕◌, ◌⊖◌, ◌⊗◌, ◌⊘◌, gt, 0f, is_finite, abs, maxf}
 use Rattle.tolerances.specs.Tol.{Term, ROUNDOFF_FLOOR}
 use Rattle.definition.specs.declared.Activity.{Activity}
 use Rattle.definition.specs.Model.{Model, Row, rhs_mag}
@@ -11,19 +12,25 @@ use Rattle.definition.specs.Bounds.{tighten_upper, tighten_lower}
 use Rattle.definition.specs.Implied.{finite_abs, implied}
 use Rattle.formulas.specs.declared.Limits.{Limits}
 use Rattle.formulas.specs.declared.Side.{Side}
-use Rattle.formulas.specs.declared.Rest.{Rest}
-use Rattle.formulas.specs.declared.Rest.TheVariants.{Sum, Unbounded}
 use Rattle.formulas.specs.Bare.{bare, Has, rhs_mag_of}
 
-abbrev pub rest_is : Rest → Option Float
-rest_is (Sum s) = some s
-rest_is Unbounded = none
+-- the code's option as the definition's
+abbrev pub rest_is : std.Option Float → Option Float
+rest_is (Some s) = some s
+rest_is None = none
 
 abbrev pub hi_of : Row → Activity → Side
 hi_of row act = record { bound = row.hi; sum = act.l; ninf = act.ninf_l; abs = act.absL; slack = act.slack_l }
 
 abbrev pub lo_of : Row → Activity → Side
 lo_of row act = record { bound = row.lo; sum = act.u; ninf = act.ninf_u; abs = act.absU; slack = act.slack_u }
+
+-- whether the activity can speak of a side, and the row's magnitude there
+abbrev pub speaks : Side → Bool
+speaks side = is_finite side.bound && eqb side.ninf 0
+
+abbrev pub side_mag_of : Row → Side → Float
+side_mag_of row side = side.abs ⊕ rhs_mag row side.bound ⊕ row.fold_scale
 
 pub hi_of_of : {x : Limits} {row : Row} (act : Activity) → Has x row → hi_of (bare x) act ≡ hi_of row act
 hi_of_of act h = cc

@@ -1,5 +1,5 @@
 -- What an implied bound does to its variable, by numbers alone: the three ways of `tighten_upper` and `tighten_lower`.
-use Rattle.std.specs.Prelude.{◌≡◌, ℕ, Bool, true, false, ◌||◌, slice_set, refl, Float}
+use Rattle.std.specs.Prelude.{◌≡◌, ℕ, Bool, true, false, ◌||◌, slice_set, refl, Float, Result, Ok, Err}
 use Rattle.std.specs.Float.Ieee.{lt}
 use Rattle.floats.specs.Num.{choose, ◌⊕◌, ◌⊖◌, ◌⊗◌, gt, 1f, ½f, abs, maxf, minf}
 use Rattle.tolerances.specs.Tol.{at}
@@ -7,45 +7,51 @@ use Rattle.definition.specs.Params.{params}
 use Rattle.definition.specs.Model.{Model}
 use Rattle.definition.specs.Work.{Work, with_bounds, stop, next, bound_tol}
 use Rattle.definition.specs.Bounds.{mark_tightened, upper_int, upper_real, lower_int, lower_real, emit_bounds}
-use Rattle.formulas.specs.declared.Move.{Move}
-use Rattle.formulas.specs.declared.Move.TheVariants.{Leave, Stop, Tighten}
+use Rattle.definition.specs.declared.Infeasible.{Infeasible}
+
+-- whether a bound moves, or that no point is left
+abbrev pub Move : Type 0
+Move = Result Bool Infeasible
 
 unfoldable pub by_move : {A : Type 0} → Move → A → A → A → A
-by_move Leave x y z = x
-by_move Stop x y z = y
-by_move Tighten x y z = z
+by_move (Ok false) x y z = x
+by_move (Err e) x y z = y
+by_move (Ok true) x y z = z
+
+-- a bound that is tighter moves, unless it crosses the other: beyond its tolerance no point is left
+unfoldable pub moved : Bool → Bool → Bool → Move
+moved tighter crossed beyond = choose tighter (choose crossed (choose beyond (Err (record {})) (Ok false)) (Ok true)) (Ok false)
 
 unfoldable pub upper_int_move : Float → Float → Float → Move
-upper_int_move qi ehi wlo = choose (lt qi (ehi ⊖ ½f)) (choose (lt qi (wlo ⊖ ½f)) Stop Tighten) Leave
+upper_int_move qi ehi wlo = moved (lt qi (ehi ⊖ ½f)) (lt qi (wlo ⊖ ½f)) true
 
 unfoldable pub upper_real_move : Float → Float → Float → Float → Move
-upper_real_move nq whi wlo tol =
-    choose (lt nq (whi ⊖ params.improve_rel ⊗ maxf (abs nq) 1f))
-    (choose (lt nq wlo) (choose (gt (wlo ⊖ nq) tol) Stop Leave) Tighten)
-    Leave
+upper_real_move nq whi wlo tol = moved (lt nq (whi ⊖ params.improve_rel ⊗ maxf (abs nq) 1f)) (lt nq wlo) (gt (wlo ⊖ nq) tol)
 
 unfoldable pub lower_int_move : Float → Float → Float → Move
-lower_int_move qi elo whi = choose (gt qi (elo ⊕ ½f)) (choose (gt qi (whi ⊕ ½f)) Stop Tighten) Leave
+lower_int_move qi elo whi = moved (gt qi (elo ⊕ ½f)) (gt qi (whi ⊕ ½f)) true
 
 unfoldable pub lower_real_move : Float → Float → Float → Float → Move
-lower_real_move nq wlo whi tol =
-    choose (gt nq (wlo ⊕ params.improve_rel ⊗ maxf (abs nq) 1f))
-    (choose (gt nq whi) (choose (gt (nq ⊖ whi) tol) Stop Leave) Tighten)
-    Leave
+lower_real_move nq wlo whi tol = moved (gt nq (wlo ⊕ params.improve_rel ⊗ maxf (abs nq) 1f)) (gt nq whi) (gt (nq ⊖ whi) tol)
 
 -- a choice of moves is a choice of what they do
-two : {A : Type 0} (a b : Bool) (x y z : A) → by_move (choose a (choose b Stop Tighten) Leave) x y z ≡ choose a (choose b y z) x
-unfolding by_move choose
+two : {A : Type 0} (a b : Bool) (x y z : A) → by_move (moved a b true) x y z ≡ choose a (choose b y z) x
+unfolding by_move moved choose
 two true true x y z = refl
 two true false x y z = refl
 two false b x y z = refl
 
-three : {A : Type 0} (a b c : Bool) (x y z : A) → by_move (choose a (choose b (choose c Stop Leave) Tighten) Leave) x y z ≡ choose a (choose b (choose c y x) z) x
-unfolding by_move choose
+three : {A : Type 0} (a b c : Bool) (x y z : A) → by_move (moved a b c) x y z ≡ choose a (choose b (choose c y x) z) x
+unfolding by_move moved choose
 three true true true x y z = refl
 three true true false x y z = refl
 three true false c x y z = refl
 three false b c x y z = refl
+
+-- a bound that is not tighter leaves
+pub not_tighter : {a : Bool} (b c : Bool) → a ≡ false → moved a b c ≡ Ok false
+unfolding moved choose
+not_tighter b c e = rw e
 
 module _ (M : Model) (v : ℕ) (w : Work) where
   pub upper_int_of : (qi : Float)

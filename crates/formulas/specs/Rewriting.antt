@@ -1,5 +1,5 @@
 -- The code's forms and rewrites as the definition's, and the tests of a term and of a row by numbers alone.
-use Rattle.std.specs.Prelude.{◌≡◌, ℕ, Bool, not, ◌&&◌, ◌||◌, length, ◌==◌, nat_lt, Float}
+use Rattle.std.specs.Prelude.{◌≡◌, ℕ, Bool, not, ◌&&◌, ◌||◌, length, ◌==◌, nat_lt, Float, Option, None, Some}
 use Rattle.std.proofs.Math.Path.{refl}
 use Rattle.std.specs.Float.Ieee.{eq}
 use Rattle.floats.specs.Num.{choose, 0f, 1f}
@@ -11,20 +11,31 @@ use Rattle.definition.specs.Rewrites as defs
 use Rattle.definition.specs.Tighten.{binary, rewrite_of, spared}
 use Rattle.formulas.specs.declared.Limits.{Limits}
 use Rattle.formulas.specs.declared.Form.{Form}
-use Rattle.formulas.specs.declared.Form.TheVariants.{Le, Ge, Neither}
+use Rattle.formulas.specs.declared.Form.TheVariants.{Le, Ge}
+use Rattle.formulas.specs.declared.Rebound.{Rebound}
 use Rattle.formulas.specs.declared.Rewrite.{Rewrite}
-use Rattle.formulas.specs.declared.Rewrite.TheVariants.{Keeps, Coeff, CoeffBound}
 use Rattle.formulas.specs.Bare.{bare, Has, vacuous_of}
 
 abbrev pub form_is : Form → defs.Form
 form_is Le = defs.le_form
 form_is Ge = defs.ge_form
-form_is Neither = defs.no_form
+
+-- a row with both sides finite, or neither, has none
+abbrev pub maybe_form : Option Form → defs.Form
+maybe_form (Some f) = form_is f
+maybe_form None = defs.no_form
+
+abbrev pub bound_is : Float → Option Rebound → defs.Rewrite
+bound_is a None = defs.coeff_only a
+bound_is a (Some b) = defs.coeff_bound a b.to b.by
 
 abbrev pub rewrite_is : Rewrite → defs.Rewrite
-rewrite_is Keeps = defs.keeps
-rewrite_is (Coeff a) = defs.coeff_only a
-rewrite_is (CoeffBound a b d) = defs.coeff_bound a b d
+rewrite_is z = bound_is z.coeff z.bound
+
+-- none where nothing is rewritten
+abbrev pub maybe_rewrite : Option Rewrite → defs.Rewrite
+maybe_rewrite (Some z) = rewrite_is z
+maybe_rewrite None = defs.keeps
 
 unfoldable pub binary_at : Bool → Float → Float → Bool
 binary_at int elo ehi = int && eq elo 0f && eq ehi 1f

@@ -1,5 +1,5 @@
 -- An implied bound that leaves its variable as it is does so after it is relaxed, too: what it is relaxed by is not negative, or no number.
-use Rattle.std.specs.Prelude.{◌≡◌, ℕ, Bool, true, false, ◌&&◌, ◌||◌, T, is_nan, refl, Float}
+use Rattle.std.specs.Prelude.{◌≡◌, ℕ, Bool, true, false, ◌&&◌, ◌||◌, T, is_nan, refl, Float, Ok}
 use Rattle.std.proofs.Common.{arith, sym, ap, ◌∙◌, subst}
 use Rattle.std.specs.Float.{binary64, nan, inf, fin}
 use Rattle.std.specs.Float.Ieee.{lt, le, fits, of_bits}
@@ -18,8 +18,7 @@ use Rattle.definition.specs.Params.{params}
 use Rattle.definition.specs.Model.{Model, Row, nnz}
 use Rattle.definition.specs.Work.{budget}
 use Rattle.formulas.specs.declared.Side.{Side}
-use Rattle.formulas.specs.declared.Move.TheVariants.{Leave}
-use Rattle.formulas.specs.Moves.{upper_int_move, upper_real_move, lower_int_move, lower_real_move}
+use Rattle.formulas.specs.Moves.{not_tighter, upper_int_move, upper_real_move, lower_int_move, lower_real_move}
 use Rattle.formulas.specs.Implied.{relax_of}
 
 -- ---- what a bound is relaxed by
@@ -42,10 +41,10 @@ unfoldable pub lower_still : Bool → Float → Float → Float → Bool
 lower_still int q elo wlo = choose int (le (ceil q) (elo ⊕ ½f)) (le q wlo)
 
 pub record UpperStays (int : Bool) (q ehi whi : Float) : Type 0 where
-  pub leaves : (t wlo tol : Float) → Held t → NotNeg t → choose int (upper_int_move (floor (q ⊕ t)) ehi wlo) (upper_real_move (q ⊕ t) whi wlo tol) ≡ Leave
+  pub leaves : (t wlo tol : Float) → Held t → NotNeg t → choose int (upper_int_move (floor (q ⊕ t)) ehi wlo) (upper_real_move (q ⊕ t) whi wlo tol) ≡ Ok false
 
 pub record LowerStays (int : Bool) (q elo wlo : Float) : Type 0 where
-  pub leaves : (t whi tol : Float) → Held t → NotNeg t → choose int (lower_int_move (ceil (q ⊖ t)) elo whi) (lower_real_move (q ⊖ t) wlo whi tol) ≡ Leave
+  pub leaves : (t whi tol : Float) → Held t → NotNeg t → choose int (lower_int_move (ceil (q ⊖ t)) elo whi) (lower_real_move (q ⊖ t) wlo whi tol) ≡ Ok false
 
 pub skips : {A : Type 0} {b : Bool} (x y : A) → b ≡ false → choose b x y ≡ y
 unfolding choose
@@ -54,20 +53,6 @@ skips x y e = rw e
 pub takes : {A : Type 0} {b : Bool} (x y : A) → b ≡ true → choose b x y ≡ x
 unfolding choose
 takes x y e = rw e
-
--- ---- for the functions' proofs: the tests, by their ways
-module _ (feas mag slack : Float) where
-  pub negative_first : le 0f feas ≡ false → false ≡ not_negative feas mag slack
-  unfolding not_negative
-  negative_first e = simp e
-
-  pub negative_second : le 0f feas ≡ true → le 0f mag ≡ false → false ≡ not_negative feas mag slack
-  unfolding not_negative
-  negative_second e h = simp (e, h)
-
-  pub negative_third : le 0f feas ≡ true → le 0f mag ≡ true → le 0f slack ≡ not_negative feas mag slack
-  unfolding not_negative
-  negative_third e h = simp (e, h)
 
 -- ---- a float in hand is held, and a test that failed tells nothing
 pub held_so : {x : Float} → fits binary64 x ≡ true → Held x
@@ -148,16 +133,16 @@ improve_notneg nq h = notneg_mul _ _ improve.0 (max_held _ _ (abs_held nq h) one
 module _ {int : Bool} {q : Float} (hq : Held q) where
   pub upper_int_stays : {ehi whi : Float} → int ≡ true → le (ehi ⊖ ½f) (floor q) ≡ true → UpperStays int q ehi whi
   unfolding upper_int_move
-  upper_int_stays ei e = record { leaves = λ t wlo tol ht nt. takes _ _ ei ∙ skips _ _ (floor_stays q t _ hq ht nt e) }
+  upper_int_stays ei e = record { leaves = λ t wlo tol ht nt. takes _ _ ei ∙ not_tighter _ _ (floor_stays q t _ hq ht nt e) }
 
   pub upper_real_stays : {ehi whi : Float} → Held whi → int ≡ false → le whi q ≡ true → UpperStays int q ehi whi
   unfolding upper_real_move
-  upper_real_stays hb ei e = record { leaves = λ t wlo tol ht nt. skips _ _ ei ∙ skips _ _ (upper_stays q t _ _ hq ht hb (fits_mul _ _) nt (improve_notneg _ (fits_add _ _)) e) }
+  upper_real_stays hb ei e = record { leaves = λ t wlo tol ht nt. skips _ _ ei ∙ not_tighter _ _ (upper_stays q t _ _ hq ht hb (fits_mul _ _) nt (improve_notneg _ (fits_add _ _)) e) }
 
   pub lower_int_stays : {elo wlo : Float} → int ≡ true → le (ceil q) (elo ⊕ ½f) ≡ true → LowerStays int q elo wlo
   unfolding lower_int_move
-  lower_int_stays ei e = record { leaves = λ t whi tol ht nt. takes _ _ ei ∙ skips _ _ (ceil_stays q t _ hq ht nt e) }
+  lower_int_stays ei e = record { leaves = λ t whi tol ht nt. takes _ _ ei ∙ not_tighter _ _ (ceil_stays q t _ hq ht nt e) }
 
   pub lower_real_stays : {elo wlo : Float} → Held wlo → int ≡ false → le q wlo ≡ true → LowerStays int q elo wlo
   unfolding lower_real_move
-  lower_real_stays hb ei e = record { leaves = λ t whi tol ht nt. skips _ _ ei ∙ skips _ _ (lower_stays q t _ _ hq ht hb (fits_mul _ _) nt (improve_notneg _ (fits_sub _ _)) e) }
+  lower_real_stays hb ei e = record { leaves = λ t whi tol ht nt. skips _ _ ei ∙ not_tighter _ _ (lower_stays q t _ _ hq ht hb (fits_mul _ _) nt (improve_notneg _ (fits_sub _ _)) e) }

@@ -2,11 +2,13 @@
 // row's activity, term by term.
 ghost use Rattle.std.specs.Prelude.{◌≡◌};
 ghost use Rattle.std.specs.Float.Ieee.{lt};
-ghost use Rattle.floats.specs.Num.{choose, 0f};
+ghost use Rattle.floats.specs.Num.{choose, ◌⊕◌, 0f, is_finite};
+ghost use Rattle.floats.specs.Num.{abs as abs_of};
 ghost use Rattle.definition.specs.Model as model;
 ghost use Rattle.definition.specs.Activities.{no_activity};
-ghost use Rattle.formulas.specs.Terms.{with_min, with_max, with_slacks, step_of};
+ghost use Rattle.formulas.specs.Terms.{more, with_min, with_max, with_slacks, step_of};
 
+use crate::Ends;
 use definition::Activity;
 
 // The activity of no term.
@@ -25,120 +27,69 @@ pub fn no_activity() -> Activity
     }
 }
 
-// The smallest and the largest of a * x over lo..hi.
+// The smallest of a * x over lo..hi, and the largest: the smallest with the bounds exchanged.
+#[tactic(auto, unfolding(floats::specs::Num::choose, definition::specs::Model::range_min))]
 pub fn range_min(a: f64, lo: f64, hi: f64) -> f64
     ensures { result ≡ model.range_min a lo hi }
 {
-    if a > 0.0 {
-        return a * lo;
-    }
-    a * hi
+    if a > 0.0 { a * lo } else { a * hi }
 }
 
+#[tactic(auto, unfolding(floats::specs::Num::choose, definition::specs::Model::range_min, definition::specs::Model::range_max))]
 pub fn range_max(a: f64, lo: f64, hi: f64) -> f64
     ensures { result ≡ model.range_max a lo hi }
 {
-    if a > 0.0 {
-        return a * hi;
-    }
-    a * lo
+    range_min(a, hi, lo)
 }
 
-// A term's part at the minimum corner, and at the maximum corner.
-fn add_min(act: Activity, c: f64) -> Activity
-    ensures { result ≡ with_min c act }
+// A corner's sum, infinite terms and magnitude after a term's part more.
+#[tactic(auto, unfolding(floats::specs::Num::choose))]
+fn add(sum: f64, ninf: usize, abs: f64, c: f64) -> (f64, usize, f64)
+    ensures { result ≡ (choose (is_finite c) (sum ⊕ c) sum, choose (is_finite c) ninf (more ninf), choose (is_finite c) (abs ⊕ abs_of c) abs) }
 {
     if floats::is_finite(c) {
-        return Activity {
-            l: act.l + c,
-            u: act.u,
-            ninf_l: act.ninf_l,
-            ninf_u: act.ninf_u,
-            absL: act.absL + floats::absolute(c),
-            absU: act.absU,
-            slack_l: act.slack_l,
-            slack_u: act.slack_u,
-        };
-    }
-    Activity {
-        l: act.l,
-        u: act.u,
-        ninf_l: std::num::wrapping_add_usize(act.ninf_l, 1),
-        ninf_u: act.ninf_u,
-        absL: act.absL,
-        absU: act.absU,
-        slack_l: act.slack_l,
-        slack_u: act.slack_u,
+        (sum + c, ninf, abs + floats::absolute(c))
+    } else {
+        (sum, ninf.wrapping_add(1), abs)
     }
 }
 
-fn add_max(act: Activity, c: f64) -> Activity
-    ensures { result ≡ with_max c act }
+// A term's parts at the minimum and the maximum corner, and its slacks there.
+#[tactic(auto, unfolding(crate::specs::Terms::with_min, crate::specs::Terms::with_max))]
+fn add_term(act: Activity, cmin: f64, cmax: f64, slack_l: f64, slack_u: f64) -> Activity
+    ensures { result ≡ with_slacks slack_l slack_u (with_max cmax (with_min cmin act)) }
 {
-    if floats::is_finite(c) {
-        return Activity {
-            l: act.l,
-            u: act.u + c,
-            ninf_l: act.ninf_l,
-            ninf_u: act.ninf_u,
-            absL: act.absL,
-            absU: act.absU + floats::absolute(c),
-            slack_l: act.slack_l,
-            slack_u: act.slack_u,
-        };
-    }
+    let (l, ninf_l, absL) = add(act.l, act.ninf_l, act.absL, cmin);
+    let (u, ninf_u, absU) = add(act.u, act.ninf_u, act.absU, cmax);
     Activity {
-        l: act.l,
-        u: act.u,
-        ninf_l: act.ninf_l,
-        ninf_u: std::num::wrapping_add_usize(act.ninf_u, 1),
-        absL: act.absL,
-        absU: act.absU,
-        slack_l: act.slack_l,
-        slack_u: act.slack_u,
-    }
-}
-
-fn add_slacks(act: Activity, slack_l: f64, slack_u: f64) -> Activity
-    ensures { result ≡ with_slacks slack_l slack_u act }
-{
-    Activity {
-        l: act.l,
-        u: act.u,
-        ninf_l: act.ninf_l,
-        ninf_u: act.ninf_u,
-        absL: act.absL,
-        absU: act.absU,
+        l,
+        u,
+        ninf_l,
+        ninf_u,
+        absL,
+        absU,
         slack_l: act.slack_l + slack_l,
         slack_u: act.slack_u + slack_u,
     }
 }
 
-// A term's parts at both corners, and its slacks there.
-fn add_term(act: Activity, cmin: f64, cmax: f64, slack_l: f64, slack_u: f64) -> Activity
-    ensures { result ≡ with_slacks slack_l slack_u (with_max cmax (with_min cmin act)) }
-{
-    let least = add_min(act, cmin);
-    let both = add_max(least, cmax);
-    add_slacks(both, slack_l, slack_u)
-}
-
 // The tolerance of the bound that a term takes at the minimum corner.
-fn tol_min(a: f64, tolLo: f64, tolHi: f64) -> f64
-    ensures { result ≡ choose (lt a 0f) tolHi tolLo }
+#[tactic(auto, unfolding(floats::specs::Num::choose))]
+fn tol_min(a: f64, e: Ends) -> f64
+    ensures { result ≡ choose (lt a 0f) e.tol_hi e.tol_lo }
 {
-    if a < 0.0 { tolHi } else { tolLo }
+    if a < 0.0 { e.tol_hi } else { e.tol_lo }
 }
 
-// One term more: its coefficient, its variable's bounds, and their tolerances. One jump by the sign costs less than a choice
-// for each corner.
-pub fn activity_step(act: Activity, a: f64, lo: f64, hi: f64, tolLo: f64, tolHi: f64) -> Activity
-    ensures { result ≡ step_of a lo hi tolLo tolHi act }
+// One term more: its coefficient, and its variable's bounds. One jump by the sign costs less than a choice for each corner.
+#[tactic(auto, using(crate::specs::Terms::step_positive, crate::specs::Terms::step_other))]
+pub fn activity_step(act: Activity, a: f64, e: Ends) -> Activity
+    ensures { result ≡ step_of a e.lo e.hi e.tol_lo e.tol_hi act }
 {
     let p = floats::absolute(a);
     if a > 0.0 {
-        return add_term(act, a * lo, a * hi, p * tolLo, p * tolHi);
+        add_term(act, a * e.lo, a * e.hi, p * e.tol_lo, p * e.tol_hi)
+    } else {
+        add_term(act, a * e.hi, a * e.lo, p * tol_min(a, e), p * e.tol_lo)
     }
-    let least = tol_min(a, tolLo, tolHi);
-    add_term(act, a * hi, a * lo, p * least, p * tolLo)
 }

@@ -2,21 +2,26 @@
 ghost use Rattle.std.specs.Prelude.{◌≡◌};
 ghost use Rattle.definition.specs.Begin as begin;
 
-// Only a finite bound is rounded.
+// Only a finite bound is rounded. A lower one less the tolerance is rounded up, an upper one with it down: one function for both
+// would take the sum and the rounding as parameters.
+#[tactic(auto, unfolding(floats::specs::Num::choose, definition::specs::Begin::rounded_lower))]
 pub fn rounded_lower(tol: f64, l: f64) -> f64
     ensures { result ≡ begin.rounded_lower tol l }
 {
     if floats::is_finite(l) {
-        return floats::ceil(l - tol);
+        floats::ceil(l - tol)
+    } else {
+        l
     }
-    l
 }
 
+#[tactic(auto, unfolding(floats::specs::Num::choose, definition::specs::Begin::rounded_upper))]
 pub fn rounded_upper(tol: f64, h: f64) -> f64
     ensures { result ≡ begin.rounded_upper tol h }
 {
     if floats::is_finite(h) {
-        return floats::floor(h + tol);
+        floats::floor(h + tol)
+    } else {
+        h
     }
-    h
 }

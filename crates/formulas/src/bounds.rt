@@ -1,107 +1,103 @@
 // `emit_bounds`, `tighten_upper` and `tighten_lower` of src/presolve/work.rs of microlp 0.7.0, changed:
-// what an implied bound does to its variable: nothing, a proof that no point is left, or a new bound.
+// whether an implied bound moves its variable's, which is an error where no point is left.
+// The lower bound's functions stand beside the upper's: they add where those subtract, and one function for both would take
+// the rounding, the sums and the comparisons as parameters.
 ghost use Rattle.std.specs.Prelude.{◌≡◌, true};
 ghost use Rattle.formulas.specs.Moves as moves;
 ghost use Rattle.formulas.specs.Stays.{upper_still, lower_still, UpperStays, LowerStays};
 
-use crate::Move;
 use crate::params::IMPROVE_REL;
+use definition::Infeasible;
+
+// A bound that is tighter moves, unless it crosses the variable's other bound: beyond what that allows, no point is left.
+#[tactic(auto, unfolding(floats::specs::Num::choose, crate::specs::Moves::moved))]
+fn moved(tighter: bool, crossed: bool, beyond: bool) -> Result<bool, Infeasible>
+    ensures { result ≡ moves.moved tighter crossed beyond }
+{
+    if !tighter {
+        return Ok(false);
+    }
+    if !crossed {
+        return Ok(true);
+    }
+    if beyond { Err(Infeasible) } else { Ok(false) }
+}
 
 // An integer variable's upper bound, rounded: qi.
-pub fn upper_int_move(qi: f64, ehi: f64, wlo: f64) -> Move
+#[tactic(auto, unfolding(crate::specs::Moves::upper_int_move))]
+pub fn upper_int_move(qi: f64, ehi: f64, wlo: f64) -> Result<bool, Infeasible>
     ensures { result ≡ moves.upper_int_move qi ehi wlo }
 {
-    if qi < ehi - 0.5 {
-        if qi < wlo - 0.5 {
-            return Move::Stop;
-        }
-        return Move::Tighten;
-    }
-    Move::Leave
+    moved(qi < ehi - 0.5, qi < wlo - 0.5, true)
 }
 
 // Any other variable's upper bound, relaxed: nq. The tolerance is that of the lower emitted bound.
-pub fn upper_real_move(nq: f64, whi: f64, wlo: f64, tol: f64) -> Move
+#[tactic(auto, unfolding(crate::specs::Moves::upper_real_move))]
+pub fn upper_real_move(nq: f64, whi: f64, wlo: f64, tol: f64) -> Result<bool, Infeasible>
     ensures { result ≡ moves.upper_real_move nq whi wlo tol }
 {
-    if nq < whi - IMPROVE_REL * floats::larger(floats::absolute(nq), 1.0) {
-        if nq < wlo {
-            if wlo - nq > tol {
-                return Move::Stop;
-            }
-            return Move::Leave;
-        }
-        return Move::Tighten;
-    }
-    Move::Leave
+    let least = IMPROVE_REL * floats::larger(floats::absolute(nq), 1.0);
+    moved(nq < whi - least, nq < wlo, wlo - nq > tol)
 }
 
 // An integer variable's lower bound, rounded: qi.
-pub fn lower_int_move(qi: f64, elo: f64, whi: f64) -> Move
+#[tactic(auto, unfolding(crate::specs::Moves::lower_int_move))]
+pub fn lower_int_move(qi: f64, elo: f64, whi: f64) -> Result<bool, Infeasible>
     ensures { result ≡ moves.lower_int_move qi elo whi }
 {
-    if qi > elo + 0.5 {
-        if qi > whi + 0.5 {
-            return Move::Stop;
-        }
-        return Move::Tighten;
-    }
-    Move::Leave
+    moved(qi > elo + 0.5, qi > whi + 0.5, true)
 }
 
-pub fn lower_real_move(nq: f64, wlo: f64, whi: f64, tol: f64) -> Move
+#[tactic(auto, unfolding(crate::specs::Moves::lower_real_move))]
+pub fn lower_real_move(nq: f64, wlo: f64, whi: f64, tol: f64) -> Result<bool, Infeasible>
     ensures { result ≡ moves.lower_real_move nq wlo whi tol }
 {
-    if nq > wlo + IMPROVE_REL * floats::larger(floats::absolute(nq), 1.0) {
-        if nq > whi {
-            if nq - whi > tol {
-                return Move::Stop;
-            }
-            return Move::Leave;
-        }
-        return Move::Tighten;
-    }
-    Move::Leave
+    let least = IMPROVE_REL * floats::larger(floats::absolute(nq), 1.0);
+    moved(nq > wlo + least, nq > whi, nq - whi > tol)
 }
 
 // Whether an implied bound q is at or outside the bound that it would move, as most are. Such a q leaves its variable as it is,
 // whatever it is relaxed by, which need then not be computed.
+#[tactic(auto, unfolding(floats::specs::Num::choose, crate::specs::Stays::upper_still))]
 pub fn upper_stays(int: bool, q: f64, ehi: f64, whi: f64) -> bool
     ensures value { result ≡ upper_still int q ehi whi }
     ensures upper_stays { result ≡ true → UpperStays int q ehi whi }
 {
     if int {
-        return floats::floor(q) >= ehi - 0.5;
+        floats::floor(q) >= ehi - 0.5
+    } else {
+        q >= whi
     }
-    q >= whi
 }
 
+#[tactic(auto, unfolding(floats::specs::Num::choose, crate::specs::Stays::lower_still))]
 pub fn lower_stays(int: bool, q: f64, elo: f64, wlo: f64) -> bool
     ensures value { result ≡ lower_still int q elo wlo }
     ensures lower_stays { result ≡ true → LowerStays int q elo wlo }
 {
     if int {
-        return floats::ceil(q) <= elo + 0.5;
+        floats::ceil(q) <= elo + 0.5
+    } else {
+        q <= wlo
     }
-    q <= wlo
 }
 
-// `emit_bounds`: whether it tightens, and the working bounds that it leaves.
+// `emit_bounds`: whether it tightens, and the working bounds that it leaves: the upper one with the larger and the smaller exchanged.
+#[tactic(auto, unfolding(crate::specs::Moves::emits_tighter))]
 pub fn emits_tighter(lo: f64, hi: f64, elo: f64, ehi: f64) -> bool
     ensures { result ≡ moves.emits_tighter lo hi elo ehi }
 {
-    if lo > elo {
-        return true;
-    }
-    hi < ehi
+    lo > elo || hi < ehi
 }
 
+#[tactic(auto, unfolding(crate::specs::Moves::emitted_lower))]
 pub fn emitted_lower(wlo: f64, lo: f64, hi: f64) -> f64
     ensures { result ≡ moves.emitted_lower wlo lo hi }
 {
     floats::smaller(floats::larger(wlo, lo), hi)
 }
 
+#[tactic(auto, unfolding(crate::specs::Moves::emitted_upper))]
 pub fn emitted_upper(whi: f64, lo: f64, hi: f64) -> f64
     ensures { result ≡ moves.emitted_upper whi lo hi }
 {

@@ -4,15 +4,17 @@ ghost use Rattle.definition.specs.Folds as folds;
 ghost use Rattle.formulas.specs.Bare.{ByTol};
 
 // What the binding branch takes out of the row's tolerance.
+#[tactic(auto, unfolding(floats::specs::Num::choose, definition::specs::Folds::rewrite_room))]
 pub fn rewrite_room(feas: f64, written: f64, rewritten: f64, fixed: f64) -> f64
     ensures { ByTol feas result (λ M. folds.rewrite_room M written rewritten fixed) }
 {
     let m = written + fixed;
     if floats::is_finite(m) {
-        return floats::larger(
+        floats::larger(
             tolerances::row_tolerance(feas, m) - tolerances::row_tolerance(feas, rewritten + fixed),
             0.0,
-        );
+        )
+    } else {
+        floats::infinity()
     }
-    floats::infinity()
 }

@@ -24,24 +24,24 @@ pub use bounds::{
 };
 pub use fixing::{blocks, fixed_at, is_int_domain, is_mip, may_fall, may_rise};
 pub use folding::rewrite_room;
-pub use forcing::{corner, forced, sliver_fits};
-pub use implied::{bounds_above, hi_of, lo_of, quotient, relaxation, relaxes, rest_of};
+pub use forcing::corner;
+pub use implied::bounds_above;
 pub use params::{
     COEFF_MIN_IMPROVE, COEFF_TIGHTEN_ROW_CAP, COEFF_TIGHTEN_SHORT_ROW, IMPROVE_REL, MAX_PASSES,
     MAX_ROUNDS, REDUNDANT_MARGIN, max_rounds, max_waves,
 };
-pub use rewrites::{act_after, binary, form_of, rewrite_count, rewrite_of, spared, vacuous_room};
-pub use sides::{above_hi, below_lo, mag_l, mag_u, near_max, near_min, redundant, within};
-pub use singles::{lower_meets, lower_side, misses, new_lower, new_upper, upper_meets, upper_side};
+pub use rewrites::{act_after, binary, rewrite_count, spared};
 
 // What a row's formulas look at, by value: its two sides, the magnitude of the terms folded out of
-// it, and their sum. Fields are in camel case so that definitions name them unquoted.
+// it and their sum, the tolerance that it is held to, and how many terms it has as written.
 #[derive(Clone, Copy)]
 pub struct Limits {
     pub lo: f64,
     pub hi: f64,
     pub fold_scale: f64,
     pub shift: f64,
+    pub feas: f64,
+    pub terms: usize,
 }
 
 // One side of a row: its bound, and the activity's sum, infinite terms, magnitude and slack at the
@@ -55,19 +55,13 @@ pub struct Side {
     pub slack: f64,
 }
 
-// The rest of a row at a corner: its sum, or none where a term of it is infinite.
+// A variable's bounds, and the tolerance of each.
 #[derive(Clone, Copy)]
-pub enum Rest {
-    Sum(f64),
-    Unbounded,
-}
-
-// What an implied bound does: it leaves the variable alone, stops presolve, or tightens.
-#[derive(Clone, Copy)]
-pub enum Move {
-    Leave,
-    Stop,
-    Tighten,
+pub struct Ends {
+    pub lo: f64,
+    pub hi: f64,
+    pub tol_lo: f64,
+    pub tol_hi: f64,
 }
 
 // Which side a row's one finite bound is on.
@@ -75,14 +69,18 @@ pub enum Move {
 pub enum Form {
     Le,
     Ge,
-    Neither,
 }
 
-// What a rewrite does: nothing; a new coefficient; or a new coefficient, the row's new bound before
-// its relaxation, and how far that moved.
+// A rewrite of a term: its new coefficient, and the row's new bound where that moves.
 #[derive(Clone, Copy)]
-pub enum Rewrite {
-    Keeps,
-    Coeff(f64),
-    CoeffBound(f64, f64, f64),
+pub struct Rewrite {
+    pub coeff: f64,
+    pub bound: Option<Rebound>,
+}
+
+// A row's new bound before its relaxation, and how far it moved.
+#[derive(Clone, Copy)]
+pub struct Rebound {
+    pub to: f64,
+    pub by: f64,
 }

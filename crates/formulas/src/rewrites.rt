@@ -1,251 +1,221 @@
 // `tighten_binary_coeffs` of src/presolve/work.rs of microlp 0.7.0, changed: what a rewrite does to one
 // term: a vacuous branch of a binary is made bound-tight.
-ghost use Rattle.std.specs.Prelude.{◌≡◌, Float};
+// A Ge row's functions and arms stand beside a Le row's: they add where those subtract, and one function for both would take the
+// sums and the comparisons as parameters.
+// A form and a rewrite are Options, since the promises stand for a row with no such side and for no rewrite too.
+ghost use Rattle.std.specs.Prelude.{◌≡◌};
 ghost use Rattle.definition.specs.Rewrites as defs;
 ghost use Rattle.formulas.specs.Bare.{bare, ByParams};
-ghost use Rattle.formulas.specs.Rewriting.{form_is, rewrite_is, spared_at, binary_at, rewrite_at};
+ghost use Rattle.formulas.specs.Rewriting.{maybe_form, maybe_rewrite, spared_at, binary_at, rewrite_at};
 
 use crate::params::{COEFF_MIN_IMPROVE, COEFF_TIGHTEN_ROW_CAP, COEFF_TIGHTEN_SHORT_ROW};
-use crate::sides::rhs_mag;
-use crate::{Form, Limits, Rewrite};
+use crate::{Form, Limits, Rebound, Rewrite};
 use definition::Activity;
 use tolerances::ROUNDOFF_FLOOR;
 
-// Which side a row's one finite bound is on.
-pub fn form_of(x: Limits) -> Form
-    ensures { form_is result ≡ defs.form_of (bare x) }
-{
-    if floats::is_finite(x.hi) {
-        if floats::is_finite(x.lo) {
-            return Form::Neither;
+impl Limits {
+    // Which side the row's one finite bound is on: none where both are finite, or neither.
+    #[tactic(auto, unfolding(floats::specs::Num::choose, definition::specs::Rewrites::form_of))]
+    pub fn form(self) -> Option<Form>
+        ensures { maybe_form result ≡ defs.form_of (bare self) }
+    {
+        match (floats::is_finite(self.hi), floats::is_finite(self.lo)) {
+            (true, false) => Some(Form::Le),
+            (false, true) => Some(Form::Ge),
+            _ => None,
         }
-        return Form::Le;
     }
-    if floats::is_finite(x.lo) {
-        return Form::Ge;
+
+    // The relaxation of the vacuous branch.
+    #[tactic(auto, unfolding(definition::specs::Rewrites::vacuous_room))]
+    pub fn vacuous_room(self, f: Option<Form>, act: Activity) -> f64
+        ensures { result ≡ defs.vacuous_room (maybe_form f) (bare self) act }
+    {
+        match f {
+            Some(Form::Le) => {
+                act.slack_u + ROUNDOFF_FLOOR * (act.absU + self.rhs_mag(self.hi) + self.fold_scale)
+            }
+            Some(Form::Ge) => {
+                act.slack_l + ROUNDOFF_FLOOR * (act.absL + self.rhs_mag(self.lo) + self.fold_scale)
+            }
+            None => 0.0,
+        }
     }
-    Form::Neither
+
+    #[tactic(auto, unfolding(floats::specs::Num::choose, definition::specs::Rewrites::vacuous_le))]
+    fn vacuous_le(self, nz: f64, act: Activity, a: f64) -> Option<Rewrite>
+        ensures { ByParams (maybe_rewrite result) (λ M. defs.vacuous_le M nz (bare self) act a) }
+    {
+        let rest = act.u - floats::larger(a, 0.0);
+        if a > 0.0 {
+            shrink_le(nz, self.hi, rest, a)
+        } else {
+            raise_le(nz, self.hi, rest, a)
+        }
+    }
+
+    #[tactic(auto, unfolding(floats::specs::Num::choose, definition::specs::Rewrites::vacuous_ge))]
+    fn vacuous_ge(self, nz: f64, act: Activity, a: f64) -> Option<Rewrite>
+        ensures { ByParams (maybe_rewrite result) (λ M. defs.vacuous_ge M nz (bare self) act a) }
+    {
+        let rest = act.l - floats::smaller(a, 0.0);
+        if a < 0.0 {
+            shrink_ge(nz, self.lo, rest, a)
+        } else {
+            lower_ge(nz, self.lo, rest, a)
+        }
+    }
+
+    #[tactic(auto, unfolding(floats::specs::Num::choose, definition::specs::Rewrites::vacuous))]
+    fn vacuous(self, f: Option<Form>, nz: f64, act: Activity, a: f64) -> Option<Rewrite>
+        ensures { ByParams (maybe_rewrite result) (λ M. defs.vacuous M (maybe_form f) nz (bare self) act a) }
+    {
+        match f {
+            Some(Form::Le) => {
+                if act.ninf_u == 0 {
+                    self.vacuous_le(nz, act, a)
+                } else {
+                    None
+                }
+            }
+            Some(Form::Ge) => {
+                if act.ninf_l == 0 {
+                    self.vacuous_ge(nz, act, a)
+                } else {
+                    None
+                }
+            }
+            None => None,
+        }
+    }
+
+    // The rewrite of a term whose variable is a strict binary, or is not.
+    #[tactic(auto, unfolding(floats::specs::Num::choose, crate::specs::Rewriting::rewrite_at))]
+    pub fn rewrite_of(
+        self,
+        is_binary: bool,
+        f: Option<Form>,
+        nz: f64,
+        act: Activity,
+        a: f64,
+    ) -> Option<Rewrite>
+        ensures { ByParams (maybe_rewrite result) (λ M. rewrite_at M is_binary (maybe_form f) nz (bare self) act a) }
+    {
+        if !is_binary || a == 0.0 {
+            None
+        } else {
+            self.vacuous(f, nz, act, a)
+        }
+    }
+}
+
+// The activity after the rewrite of the coefficient a, if that is rewritten.
+#[tactic(auto, unfolding(definition::specs::Rewrites::act_after))]
+pub fn act_after(f: Option<Form>, a: f64, z: Option<Rewrite>, act: Activity) -> Activity
+    ensures { result ≡ defs.act_after (maybe_form f) a (maybe_rewrite z) act }
+{
+    let Some(z) = z else {
+        return act;
+    };
+    match (f, z.bound) {
+        (Some(Form::Le), None) => Activity {
+            l: act.l + (z.coeff - a),
+            ..act
+        },
+        (Some(Form::Ge), None) => Activity {
+            u: act.u - (a - z.coeff),
+            ..act
+        },
+        (Some(Form::Le), Some(b)) => Activity {
+            u: act.u - b.by,
+            ..act
+        },
+        (Some(Form::Ge), Some(b)) => Activity {
+            l: act.l + b.by,
+            ..act
+        },
+        (None, _) => act,
+    }
 }
 
 // How many rewrites that is.
-pub fn rewrite_count(x: Rewrite) -> usize
-    ensures { result ≡ defs.rewrites (rewrite_is x) }
+#[tactic(auto, unfolding(definition::specs::Rewrites::rewrites))]
+pub fn rewrite_count(z: Option<Rewrite>) -> usize
+    ensures { result ≡ defs.rewrites (maybe_rewrite z) }
 {
-    match x {
-        Rewrite::Keeps => 0,
-        Rewrite::Coeff(_) => 1,
-        Rewrite::CoeffBound(_, _, _) => 1,
-    }
-}
-
-// The relaxation of the vacuous branch.
-pub fn vacuous_room(f: Form, x: Limits, act: Activity) -> f64
-    ensures { result ≡ defs.vacuous_room (form_is f) (bare x) act }
-{
-    match f {
-        Form::Le => act.slack_u + ROUNDOFF_FLOOR * (act.absU + rhs_mag(x, x.hi) + x.fold_scale),
-        Form::Ge => act.slack_l + ROUNDOFF_FLOOR * (act.absL + rhs_mag(x, x.lo) + x.fold_scale),
-        Form::Neither => 0.0,
-    }
-}
-
-fn with_l(act: Activity, l: f64) -> Activity
-    ensures { result ≡ defs.with_l l act }
-{
-    Activity {
-        l,
-        u: act.u,
-        ninf_l: act.ninf_l,
-        ninf_u: act.ninf_u,
-        absL: act.absL,
-        absU: act.absU,
-        slack_l: act.slack_l,
-        slack_u: act.slack_u,
-    }
-}
-
-fn with_u(act: Activity, u: f64) -> Activity
-    ensures { result ≡ defs.with_u u act }
-{
-    Activity {
-        l: act.l,
-        u,
-        ninf_l: act.ninf_l,
-        ninf_u: act.ninf_u,
-        absL: act.absL,
-        absU: act.absU,
-        slack_l: act.slack_l,
-        slack_u: act.slack_u,
-    }
-}
-
-// The activity after a rewrite of the coefficient a into na.
-fn after_coeff(f: Form, a: f64, na: f64, act: Activity) -> Activity
-    ensures { result ≡ defs.act_after (form_is f) a (defs.coeff_only na) act }
-{
-    match f {
-        Form::Le => with_l(act, act.l + (na - a)),
-        Form::Ge => with_u(act, act.u - (a - na)),
-        Form::Neither => act,
-    }
-}
-
-// The activity after a rewrite that moves the bound by delta.
-fn after_bound(f: Form, delta: f64, act: Activity) -> Activity
-    ensures { (a na bp : Float) → result ≡ defs.act_after (form_is f) a (defs.coeff_bound na bp delta) act }
-{
-    match f {
-        Form::Le => with_u(act, act.u - delta),
-        Form::Ge => with_l(act, act.l + delta),
-        Form::Neither => act,
-    }
-}
-
-pub fn act_after(f: Form, a: f64, x: Rewrite, act: Activity) -> Activity
-    ensures { result ≡ defs.act_after (form_is f) a (rewrite_is x) act }
-{
-    match x {
-        Rewrite::Keeps => act,
-        Rewrite::Coeff(na) => after_coeff(f, a, na, act),
-        Rewrite::CoeffBound(_, _, delta) => after_bound(f, delta, act),
-    }
+    usize::from(z.is_some())
 }
 
 // A Le row, b its bound. At zero the branch is vacuous, and a and b shrink.
-fn shrink_le(nz: f64, b: f64, restU: f64, a: f64) -> Rewrite
-    ensures { ByParams (rewrite_is result) (λ M. defs.shrink_le M nz b restU a) }
+#[tactic(auto, unfolding(floats::specs::Num::choose, definition::specs::Rewrites::shrink_le))]
+fn shrink_le(nz: f64, b: f64, rest: f64, a: f64) -> Option<Rewrite>
+    ensures { ByParams (maybe_rewrite result) (λ M. defs.shrink_le M nz b rest a) }
 {
-    let bp = restU + nz;
-    let delta = b - bp;
-    let na = a - delta;
-    if delta > COEFF_MIN_IMPROVE * a {
-        if na > 0.0 {
-            return Rewrite::CoeffBound(na, bp, delta);
-        }
-        return Rewrite::Keeps;
+    let to = rest + nz;
+    let by = b - to;
+    let coeff = a - by;
+    if by > COEFF_MIN_IMPROVE * a && coeff > 0.0 {
+        let bound = Some(Rebound { to, by });
+        Some(Rewrite { coeff, bound })
+    } else {
+        None
     }
-    Rewrite::Keeps
 }
 
 // At one the branch is vacuous, and |a| shrinks.
-fn raise_le(nz: f64, b: f64, restU: f64, a: f64) -> Rewrite
-    ensures { ByParams (rewrite_is result) (λ M. defs.raise_le M nz b restU a) }
+#[tactic(auto, unfolding(floats::specs::Num::choose, definition::specs::Rewrites::raise_le))]
+fn raise_le(nz: f64, b: f64, rest: f64, a: f64) -> Option<Rewrite>
+    ensures { ByParams (maybe_rewrite result) (λ M. defs.raise_le M nz b rest a) }
 {
-    let na = b - (restU + nz);
-    if na - a > COEFF_MIN_IMPROVE * -a {
-        if na < 0.0 {
-            return Rewrite::Coeff(na);
-        }
-        return Rewrite::Keeps;
+    let coeff = b - (rest + nz);
+    if coeff - a > COEFF_MIN_IMPROVE * -a && coeff < 0.0 {
+        Some(Rewrite { coeff, bound: None })
+    } else {
+        None
     }
-    Rewrite::Keeps
-}
-
-fn vacuous_le(nz: f64, x: Limits, act: Activity, a: f64) -> Rewrite
-    ensures { ByParams (rewrite_is result) (λ M. defs.vacuous_le M nz (bare x) act a) }
-{
-    let restU = act.u - floats::larger(a, 0.0);
-    if a > 0.0 {
-        return shrink_le(nz, x.hi, restU, a);
-    }
-    raise_le(nz, x.hi, restU, a)
 }
 
 // A Ge row, b its bound. At zero the branch is vacuous, and b and a, which is negative, rise.
-fn shrink_ge(nz: f64, b: f64, restL: f64, a: f64) -> Rewrite
-    ensures { ByParams (rewrite_is result) (λ M. defs.shrink_ge M nz b restL a) }
+#[tactic(auto, unfolding(floats::specs::Num::choose, definition::specs::Rewrites::shrink_ge))]
+fn shrink_ge(nz: f64, b: f64, rest: f64, a: f64) -> Option<Rewrite>
+    ensures { ByParams (maybe_rewrite result) (λ M. defs.shrink_ge M nz b rest a) }
 {
-    let bp = restL - nz;
-    let delta = bp - b;
-    let na = a + delta;
-    if delta > COEFF_MIN_IMPROVE * -a {
-        if na < 0.0 {
-            return Rewrite::CoeffBound(na, bp, delta);
-        }
-        return Rewrite::Keeps;
+    let to = rest - nz;
+    let by = to - b;
+    let coeff = a + by;
+    if by > COEFF_MIN_IMPROVE * -a && coeff < 0.0 {
+        let bound = Some(Rebound { to, by });
+        Some(Rewrite { coeff, bound })
+    } else {
+        None
     }
-    Rewrite::Keeps
 }
 
 // A Ge row where at one the branch is vacuous: a falls.
-fn lower_ge(nz: f64, b: f64, restL: f64, a: f64) -> Rewrite
-    ensures { ByParams (rewrite_is result) (λ M. defs.lower_ge M nz b restL a) }
+#[tactic(auto, unfolding(floats::specs::Num::choose, definition::specs::Rewrites::lower_ge))]
+fn lower_ge(nz: f64, b: f64, rest: f64, a: f64) -> Option<Rewrite>
+    ensures { ByParams (maybe_rewrite result) (λ M. defs.lower_ge M nz b rest a) }
 {
-    let na = b - (restL - nz);
-    if a - na > COEFF_MIN_IMPROVE * a {
-        if na > 0.0 {
-            return Rewrite::Coeff(na);
-        }
-        return Rewrite::Keeps;
-    }
-    Rewrite::Keeps
-}
-
-fn vacuous_ge(nz: f64, x: Limits, act: Activity, a: f64) -> Rewrite
-    ensures { ByParams (rewrite_is result) (λ M. defs.vacuous_ge M nz (bare x) act a) }
-{
-    let restL = act.l - floats::smaller(a, 0.0);
-    if a < 0.0 {
-        return shrink_ge(nz, x.lo, restL, a);
-    }
-    lower_ge(nz, x.lo, restL, a)
-}
-
-fn vacuous(f: Form, nz: f64, x: Limits, act: Activity, a: f64) -> Rewrite
-    ensures { ByParams (rewrite_is result) (λ M. defs.vacuous M (form_is f) nz (bare x) act a) }
-{
-    match f {
-        Form::Le => {
-            if act.ninf_u == 0 {
-                return vacuous_le(nz, x, act, a);
-            }
-            Rewrite::Keeps
-        }
-        Form::Ge => {
-            if act.ninf_l == 0 {
-                return vacuous_ge(nz, x, act, a);
-            }
-            Rewrite::Keeps
-        }
-        Form::Neither => Rewrite::Keeps,
+    let coeff = b - (rest - nz);
+    if a - coeff > COEFF_MIN_IMPROVE * a && coeff > 0.0 {
+        Some(Rewrite { coeff, bound: None })
+    } else {
+        None
     }
 }
 
 // Strictly binary in the emitted bounds, as numbers.
+#[tactic(auto, unfolding(crate::specs::Rewriting::binary_at))]
 pub fn binary(is_int_domain: bool, elo: f64, ehi: f64) -> bool
     ensures { result ≡ binary_at is_int_domain elo ehi }
 {
-    if is_int_domain {
-        if elo == 0.0 {
-            return ehi == 1.0;
-        }
-        return false;
-    }
-    false
-}
-
-// The rewrite of a term whose variable is a strict binary, or is not.
-pub fn rewrite_of(isBinary: bool, f: Form, nz: f64, x: Limits, act: Activity, a: f64) -> Rewrite
-    ensures { ByParams (rewrite_is result) (λ M. rewrite_at M isBinary (form_is f) nz (bare x) act a) }
-{
-    if isBinary {
-        if a == 0.0 {
-            return Rewrite::Keeps;
-        }
-        return vacuous(f, nz, x, act, a);
-    }
-    Rewrite::Keeps
+    is_int_domain && elo == 0.0 && ehi == 1.0
 }
 
 // Whether a row of len live terms, n of them eligible, is left alone.
+#[tactic(auto, unfolding(crate::specs::Rewriting::spared_at))]
 pub fn spared(len: usize, n: usize) -> bool
     ensures { ByParams result (λ M. spared_at M len n) }
 {
-    if n == 0 {
-        return true;
-    }
-    if len > COEFF_TIGHTEN_SHORT_ROW {
-        return n > COEFF_TIGHTEN_ROW_CAP;
-    }
-    false
+    n == 0 || len > COEFF_TIGHTEN_SHORT_ROW && n > COEFF_TIGHTEN_ROW_CAP
 }

@@ -6,160 +6,157 @@ ghost use Rattle.definition.specs.Model.{rhs_mag};
 ghost use Rattle.definition.specs.Work as work;
 ghost use Rattle.definition.specs.Sides as sides;
 ghost use Rattle.formulas.specs.Bare.{bare, Says, ByParams};
+ghost use Rattle.formulas.specs.Implied.{speaks, side_mag_of};
 
-use crate::Limits;
 use crate::params::REDUNDANT_MARGIN;
+use crate::{Limits, Side};
 use definition::Activity;
 
-// The magnitude of a bound as written.
-pub(crate) fn rhs_mag(x: Limits, b: f64) -> f64
-    ensures { result ≡ rhs_mag (bare x) b }
-{
-    floats::absolute(b + x.shift)
-}
-
-// Whether the activity can speak of the upper side, and of the lower.
-fn hi_side(x: Limits, act: Activity) -> bool
-    ensures { result ≡ sides.hi_side (bare x) act }
-{
-    if floats::is_finite(x.hi) {
-        return act.ninf_l == 0;
+// The lower side's tests stand beside the upper's: they add where those subtract, and one function for both would take the sums and
+// the comparisons as parameters.
+impl Limits {
+    // The magnitude of a bound as written.
+    #[tactic(auto, unfolding(definition::specs::Model::rhs_mag))]
+    pub(crate) fn rhs_mag(self, b: f64) -> f64
+        ensures { result ≡ rhs_mag (bare self) b }
+    {
+        floats::absolute(b + self.shift)
     }
-    false
-}
 
-fn lo_side(x: Limits, act: Activity) -> bool
-    ensures { result ≡ sides.lo_side (bare x) act }
-{
-    if floats::is_finite(x.lo) {
-        return act.ninf_u == 0;
+    // The row's magnitude at the corner that meets a side.
+    fn mag(self, side: Side) -> f64
+        ensures { result ≡ side_mag_of (bare self) side }
+    {
+        side.abs + self.rhs_mag(side.bound) + self.fold_scale
     }
-    false
-}
 
-// The row's magnitude at its minimum corner, and at its maximum corner.
-pub fn mag_l(x: Limits, act: Activity) -> f64
-    ensures { result ≡ sides.mag_l (bare x) act }
-{
-    act.absL + rhs_mag(x, x.hi) + x.fold_scale
-}
-
-pub fn mag_u(x: Limits, act: Activity) -> f64
-    ensures { result ≡ sides.mag_u (bare x) act }
-{
-    act.absU + rhs_mag(x, x.lo) + x.fold_scale
-}
-
-// What a row of so many terms may be missed by, at a magnitude.
-pub(crate) fn budget(feas: f64, terms: usize, m: f64) -> f64
-    ensures { Says feas terms result (λ M r. work.budget M r m) }
-{
-    tolerances::slack_tol(feas, m, terms)
-}
-
-// Infeasibility: the minimum corner lies above the row, or the maximum corner below it.
-pub fn above_hi(feas: f64, terms: usize, x: Limits, act: Activity) -> bool
-    ensures { Says feas terms result (λ M r. sides.above_hi M r (bare x) act) }
-{
-    if hi_side(x, act) {
-        return act.l - act.slack_l > x.hi + budget(feas, terms, mag_l(x, act));
+    // That at its minimum corner, and at its maximum corner.
+    #[tactic(auto, unfolding(definition::specs::Sides::mag_l))]
+    pub fn mag_l(self, act: Activity) -> f64
+        ensures { result ≡ sides.mag_l (bare self) act }
+    {
+        self.mag(self.hi_of(act))
     }
-    false
-}
 
-pub fn below_lo(feas: f64, terms: usize, x: Limits, act: Activity) -> bool
-    ensures { Says feas terms result (λ M r. sides.below_lo M r (bare x) act) }
-{
-    if lo_side(x, act) {
-        return act.u + act.slack_u < x.lo - budget(feas, terms, mag_u(x, act));
+    #[tactic(auto, unfolding(definition::specs::Sides::mag_u))]
+    pub fn mag_u(self, act: Activity) -> f64
+        ensures { result ≡ sides.mag_u (bare self) act }
+    {
+        self.mag(self.lo_of(act))
     }
-    false
-}
 
-// Forcing, the precheck over the working bounds.
-pub fn near_min(feas: f64, terms: usize, x: Limits, act: Activity) -> bool
-    ensures { Says feas terms result (λ M r. sides.near_min M r (bare x) act) }
-{
-    if hi_side(x, act) {
-        return act.l >= x.hi - budget(feas, terms, mag_l(x, act));
+    // How far the row may be missed at a side.
+    fn room(self, side: Side) -> f64
+        ensures { Says self.feas self.terms result (λ M r. work.budget M r (side_mag_of (bare self) side)) }
+    {
+        self.budget(self.mag(side))
     }
-    false
-}
 
-pub fn near_max(feas: f64, terms: usize, x: Limits, act: Activity) -> bool
-    ensures { Says feas terms result (λ M r. sides.near_max M r (bare x) act) }
-{
-    if lo_side(x, act) {
-        return act.u <= x.lo + budget(feas, terms, mag_u(x, act));
+    // What the row may be missed by, at a magnitude.
+    #[tactic(auto, unfolding(definition::specs::Work::budget))]
+    pub(crate) fn budget(self, m: f64) -> f64
+        ensures { Says self.feas self.terms result (λ M r. work.budget M r m) }
+    {
+        tolerances::slack_tol(self.feas, m, self.terms)
     }
-    false
-}
 
-// Redundancy: whether each corner, with its slack, keeps to a limit.
-fn within_lo(limit: f64, x: Limits, act: Activity) -> bool
-    ensures { result ≡ sides.within_lo limit (bare x) act }
-{
-    if floats::is_finite(x.lo) {
-        if act.ninf_l == 0 {
-            return act.l - act.slack_l >= limit;
+    // Infeasibility: the minimum corner lies above the row, or the maximum corner below it.
+    #[tactic(auto, unfolding(floats::specs::Num::choose, definition::specs::Sides::above_hi, definition::specs::Sides::hi_side, definition::specs::Sides::budget_l, definition::specs::Sides::mag_l))]
+    pub fn above_hi(self, act: Activity) -> bool
+        ensures { Says self.feas self.terms result (λ M r. sides.above_hi M r (bare self) act) }
+    {
+        let side = self.hi_of(act);
+        side.speaks() && side.sum - side.slack > side.bound + self.room(side)
+    }
+
+    #[tactic(auto, unfolding(floats::specs::Num::choose, definition::specs::Sides::below_lo, definition::specs::Sides::lo_side, definition::specs::Sides::budget_u, definition::specs::Sides::mag_u))]
+    pub fn below_lo(self, act: Activity) -> bool
+        ensures { Says self.feas self.terms result (λ M r. sides.below_lo M r (bare self) act) }
+    {
+        let side = self.lo_of(act);
+        side.speaks() && side.sum + side.slack < side.bound - self.room(side)
+    }
+
+    // Forcing, the precheck over the working bounds.
+    #[tactic(auto, unfolding(floats::specs::Num::choose, definition::specs::Sides::near_min, definition::specs::Sides::hi_side, definition::specs::Sides::budget_l, definition::specs::Sides::mag_l))]
+    pub fn near_min(self, act: Activity) -> bool
+        ensures { Says self.feas self.terms result (λ M r. sides.near_min M r (bare self) act) }
+    {
+        let side = self.hi_of(act);
+        side.speaks() && side.sum >= side.bound - self.room(side)
+    }
+
+    #[tactic(auto, unfolding(floats::specs::Num::choose, definition::specs::Sides::near_max, definition::specs::Sides::lo_side, definition::specs::Sides::budget_u, definition::specs::Sides::mag_u))]
+    pub fn near_max(self, act: Activity) -> bool
+        ensures { Says self.feas self.terms result (λ M r. sides.near_max M r (bare self) act) }
+    {
+        let side = self.lo_of(act);
+        side.speaks() && side.sum <= side.bound + self.room(side)
+    }
+
+    // Redundancy: whether each corner, with its slack, keeps to a limit.
+    #[tactic(auto, unfolding(definition::specs::Sides::within_lo))]
+    fn within_lo(self, limit: f64, act: Activity) -> bool
+        ensures { result ≡ sides.within_lo limit (bare self) act }
+    {
+        !floats::is_finite(self.lo) || act.ninf_l == 0 && act.l - act.slack_l >= limit
+    }
+
+    #[tactic(auto, unfolding(definition::specs::Sides::within_hi))]
+    fn within_hi(self, limit: f64, act: Activity) -> bool
+        ensures { result ≡ sides.within_hi limit (bare self) act }
+    {
+        !floats::is_finite(self.hi) || act.ninf_u == 0 && act.u + act.slack_u <= limit
+    }
+
+    #[tactic(auto, unfolding(definition::specs::Sides::within))]
+    pub fn within(self, act: Activity) -> bool
+        ensures { result ≡ sides.within (bare self) act }
+    {
+        self.within_lo(self.lo, act) && self.within_hi(self.hi, act)
+    }
+
+    #[tactic(auto, unfolding(definition::specs::Sides::within_by))]
+    fn within_by(self, red: f64, act: Activity) -> bool
+        ensures { result ≡ sides.within_by red (bare self) act }
+    {
+        self.within_lo(self.lo + red, act) && self.within_hi(self.hi - red, act)
+    }
+
+    // The magnitude of a finite side.
+    #[tactic(auto, unfolding(floats::specs::Num::choose, definition::specs::Sides::side_mag))]
+    fn side_mag(self, b: f64) -> f64
+        ensures { result ≡ sides.side_mag (bare self) b }
+    {
+        if floats::is_finite(b) {
+            self.rhs_mag(b)
+        } else {
+            0.0
         }
-        return false;
     }
-    true
+
+    #[tactic(auto, unfolding(definition::specs::Sides::mag_both))]
+    fn mag_both(self, e: Activity) -> f64
+        ensures { result ≡ sides.mag_both (bare self) e }
+    {
+        e.absL + e.absU + self.fold_scale + self.side_mag(self.lo) + self.side_mag(self.hi)
+    }
+
+    // The working activity is a precheck, and the emitted one, e, decides.
+    #[tactic(auto, unfolding(definition::specs::Sides::redundant))]
+    pub fn redundant(self, wact: Activity, e: Activity) -> bool
+        ensures { ByParams result (λ M. sides.redundant M (bare self) wact e) }
+    {
+        self.within(wact)
+            && self.within_by(REDUNDANT_MARGIN * floats::larger(self.mag_both(e), 1.0), e)
+    }
 }
 
-fn within_hi(limit: f64, x: Limits, act: Activity) -> bool
-    ensures { result ≡ sides.within_hi limit (bare x) act }
-{
-    if floats::is_finite(x.hi) {
-        if act.ninf_u == 0 {
-            return act.u + act.slack_u <= limit;
-        }
-        return false;
+impl Side {
+    // Whether the activity can speak of the side.
+    fn speaks(self) -> bool
+        ensures { result ≡ speaks self }
+    {
+        floats::is_finite(self.bound) && self.ninf == 0
     }
-    true
-}
-
-pub fn within(x: Limits, act: Activity) -> bool
-    ensures { result ≡ sides.within (bare x) act }
-{
-    if within_lo(x.lo, x, act) {
-        return within_hi(x.hi, x, act);
-    }
-    false
-}
-
-fn within_by(red: f64, x: Limits, act: Activity) -> bool
-    ensures { result ≡ sides.within_by red (bare x) act }
-{
-    if within_lo(x.lo + red, x, act) {
-        return within_hi(x.hi - red, x, act);
-    }
-    false
-}
-
-// The magnitude of a finite side.
-fn side_mag(x: Limits, b: f64) -> f64
-    ensures { result ≡ sides.side_mag (bare x) b }
-{
-    if floats::is_finite(b) {
-        return rhs_mag(x, b);
-    }
-    0.0
-}
-
-fn mag_both(x: Limits, e: Activity) -> f64
-    ensures { result ≡ sides.mag_both (bare x) e }
-{
-    e.absL + e.absU + x.fold_scale + side_mag(x, x.lo) + side_mag(x, x.hi)
-}
-
-// The working activity is a precheck, and the emitted one, e, decides.
-pub fn redundant(x: Limits, wact: Activity, e: Activity) -> bool
-    ensures { ByParams result (λ M. sides.redundant M (bare x) wact e) }
-{
-    if within(x, wact) {
-        return within_by(REDUNDANT_MARGIN * floats::larger(mag_both(x, e), 1.0), x, e);
-    }
-    false
 }

@@ -1,14 +1,14 @@
 -- Implied bounds of a row's terms, one after the other: what is left from the term looked at on gives the whole.
-use Rattle.std.specs.Prelude.{ℕ, suc, ◌+◌, ◌≤◌, ◌<◌, ◌≡◌, refl, List, [], ◌∷◌, length, get_or, drop, Float}
+use Rattle.std.specs.Prelude.{ℕ, suc, ◌+◌, ◌≤◌, ◌<◌, ◌≡◌, refl, List, [], ◌∷◌, length, get_or, drop, Float, Ok, Err}
 use Rattle.std.proofs.Common.{arith, add-one, ap, sym, ◌∙◌, subst, drop_of_length-le, drop-cons}
 use Rattle.std.specs.Float.{nan}
 use Rattle.tolerances.specs.Tol.{Term, term}
 use Rattle.definition.specs.declared.Activity.{Activity}
+use Rattle.definition.specs.declared.Infeasible.{Infeasible}
 use Rattle.definition.specs.Model.{Model, Row}
 use Rattle.definition.specs.Work.{Work, Step, next, ◌>>=◌, no_term}
 use Rattle.definition.specs.Implied.{implied_term, implied_bounds}
 use Rattle.space.specs.declared.Shape.{Shape}
-use Rattle.space.specs.declared.Step.TheVariants.{Stop, Next}
 use Rattle.space.specs.Store.{Floats, Numbers}
 use Rattle.formulas.specs.declared.Limits.{Limits}
 use Rattle.formulas.specs.Bare.{bare, Has}
@@ -67,9 +67,9 @@ left_is M r row act i t u hx m e =
 
 module _ {P : Model → Type 0} {s : Shape} {f₀ f : Floats} {n₀ n : Numbers} {ss : List ℕ} {r : ℕ} {act : Activity} {i : ℕ} (q : (M : Model) → P M → Spans ss M)
     (p : r < s.rows) (a : Alive n₀ r) (T : Turning P s f₀ n₀ f n (Implying r act i)) where
-  module _ {f' : Floats} {n' : Numbers} {x : Limits} {l v : ℕ} {y : Float} (lim : ReadsLimits s f₀ r x) (el : l ≡ get_or n₀.len r 0) (il : i < l)
+  module _ {f' : Floats} {n' : Numbers} {x : Limits} {l v terms : ℕ} {y : Float} (lim : ReadsLimits s f₀ r terms x) (el : l ≡ get_or n₀.len r 0) (il : i < l)
       (ev : v ≡ get_or n.vars (get_or ss r 0 + i) 0) (ey : y ≡ get_or f.coeffs (get_or ss r 0 + i) nan) where
-    pub implying_turn : Tries P s f n f' n' Next (λ M. implied_term M r (bare x) act (term v y)) → Turning P s f₀ n₀ f' n' (Implying r act (i + 1))
+    pub implying_turn : Tries P s f n f' n' (Ok tt) (λ M. implied_term M r (bare x) act (term v y)) → Turning P s f₀ n₀ f' n' (Implying r act (i + 1))
     implying_turn t =
         record {
           each = λ M o k w b c h j.
@@ -94,19 +94,19 @@ module _ {P : Model → Type 0} {s : Shape} {f₀ f : Floats} {n₀ n : Numbers}
               };
         }
 
-    pub implying_stop : Tries P s f n f' n' Stop (λ M. implied_term M r (bare x) act (term v y)) → Tries P s f₀ n₀ f' n' Stop (λ M w. implied_bounds M r (row_of w r) act (row_of w r).terms w)
-    implying_stop t =
+    pub implying_stop : {fail : Infeasible} → Tries P s f n f' n' (Err fail) (λ M. implied_term M r (bare x) act (term v y)) → Tries P s f₀ n₀ f' n' (Err fail) (λ M w. implied_bounds M r (row_of w r) act (row_of w r).terms w)
+    implying_stop {fail = fail} t =
         record {
           does = λ M o k w b c h j.
               let N = T.each M o k w b c h j in
               let row = row_of w r in
               let m : i < length row.terms = omega (arith, il, el, len_is implying_rows q p a T b c h j) in
               let e = term_still implying_rows q p a T b c h j m ev ey in
-              subst (λ (z : Step). StepShown M f' n' o Stop z) (sym (left_is M r row act i (term v y) N.work (lim.has M n₀ o w c h a) m e) ∙ N.holds.rest)
+              subst (λ (z : Step). StepShown M f' n' o (Err fail) z) (sym (left_is M r row act i (term v y) N.work (lim.has M n₀ o w c h a) m e) ∙ N.holds.rest)
               (stopped_then (λ w1. implied_bounds M r row act (drop (suc i) row.terms) w1) (t.does M o k N.work b c N.shows N.inv));
         }
 
-  pub implying_end : {l : ℕ} → l ≡ get_or n₀.len r 0 → l ≤ i → Tries P s f₀ n₀ f n Next (λ M w. implied_bounds M r (row_of w r) act (row_of w r).terms w)
+  pub implying_end : {l : ℕ} → l ≡ get_or n₀.len r 0 → l ≤ i → Tries P s f₀ n₀ f n (Ok tt) (λ M w. implied_bounds M r (row_of w r) act (row_of w r).terms w)
   implying_end el il =
       record {
         does = λ M o k w b c h j.

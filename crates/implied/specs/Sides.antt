@@ -1,6 +1,7 @@
 -- The implied bounds of one term, by the ways through the code; and that they keep the invariant and change no row.
-use Rattle.std.specs.Prelude.{ℕ, ◌+◌, ◌-◌, ◌<◌, ◌≡◌, Bool, true, false, List, get_or, Float}
-use Rattle.std.proofs.Common.{arith, sym, ◌∙◌, subst}
+use Rattle.std.specs.Prelude.{ℕ, ◌+◌, ◌-◌, ◌≡◌, Bool, true, false, List, get_or, Float, Ok, Err}
+use Rattle.std.specs.Prelude as std
+use Rattle.std.proofs.Common.{sym, ◌∙◌, subst}
 use Rattle.std.proofs.Math.Path.{refl, ap}
 use Rattle.std.proofs.Math.Option.{Option, none, some}
 use Rattle.std.specs.Float.{nan}
@@ -8,29 +9,28 @@ use Rattle.floats.specs.Num.{choose, is_finite}
 use Rattle.floats.specs.Points.{Held}
 use Rattle.tolerances.specs.Tol.{Term, term, at}
 use Rattle.definition.specs.declared.Activity.{Activity}
+use Rattle.definition.specs.declared.Infeasible.{Infeasible}
 use Rattle.definition.specs.Model.{Model, Row, range_min, range_max}
 use Rattle.definition.specs.Work.{Work, Step, stop, next, ◌>>=◌}
 use Rattle.definition.specs.Bounds.{tighten_upper, tighten_lower}
 use Rattle.definition.specs.Implied.{rest_of, implied, implied_term}
 use Rattle.space.specs.declared.Shape.{Shape}
-use Rattle.space.specs.declared.Step as code
-use Rattle.space.specs.declared.Step.TheVariants.{Stop, Next}
 use Rattle.space.specs.Store.{Floats, Numbers}
 use Rattle.formulas.specs.declared.Limits.{Limits}
 use Rattle.formulas.specs.declared.Side.{Side}
-use Rattle.formulas.specs.declared.Rest.{Rest}
-use Rattle.formulas.specs.declared.Rest.TheVariants.{Sum, Unbounded}
-use Rattle.formulas.specs.Bare.{bare, Has, Says}
+use Rattle.formulas.specs.Bare.{bare, Has, Of, Says}
 use Rattle.formulas.specs.Implied.{rest_is, hi_of, lo_of, hi_of_of, lo_of_of, bounds_above, quotient_of, relax_of, relaxation_of, implied_of}
 use Rattle.formulas.specs.Stays.{Relaxes, relax_held}
-use Rattle.view.specs.Shows.{Shows}
+use Rattle.view.specs.declared.Lists.{Lists}
+use Rattle.view.specs.Call.{Call}
+use Rattle.view.specs.Shows.{Shows, Outcome}
 use Rattle.view.specs.Inv.{Inv}
-use Rattle.view.specs.Lists.{yes, no, either}
+use Rattle.view.specs.Lists.{either}
 use Rattle.view.specs.Acts.{Tries}
 use Rattle.view.specs.Steps.{InvStep, goes, KeepsStep, tries_under, tries_then, tries_stop}
-use Rattle.view.specs.Known.{Bounding}
+use Rattle.view.specs.Known.{Bounding, Spans}
 use Rattle.view.specs.Bounds.{wlo_is, whi_is, went_by}
-use Rattle.bounds.specs.Moves.{inv_upper, inv_lower}
+use Rattle.bounds.specs.Moves.{tightens, inv_upper, inv_lower}
 use Rattle.bounds.specs.Stays.{Stays}
 use Rattle.rows.specs.Knowing.{Moves, moves_bounding, moves_spans, of_call}
 use Rattle.rows.specs.Same.{Blind, Leaves, same, same_then, upper_leaves, lower_leaves}
@@ -43,6 +43,10 @@ from_rest M upper r row side c t rest w = implied M upper r row side.bound side.
 -- a half of `implied_term`
 unfoldable pub side_step : Model → Bool → ℕ → Row → Side → Float → Term → Work → Step
 side_step M upper r row side c t w = choose (is_finite side.bound) (from_rest M upper r row side c t (rest_of side.sum side.ninf c) w) (next w)
+
+-- the rest of the row, where the side is finite
+unfoldable pub rest_at : Side → Float → Option Float
+rest_at side c = choose (is_finite side.bound) (rest_of side.sum side.ninf c) none
 
 rest_none : (M : Model) (upper : Bool) (r : ℕ) (row : Row) (side : Side) (c : Float) (t : Term) (w : Work) → from_rest M upper r row side c t none w ≡ next w
 unfolding from_rest implied
@@ -117,6 +121,9 @@ module _ {M : Model} {k : ℕ} (upper : Bool) (r : ℕ) (row : Row) (side : Side
   unfolding side_step
   inv_side i = either (InvStep M k) _ (λ e. inv_rest (rest_of side.sum side.ninf c) i) (λ e. goes i)
 
+pub side_keeps : {P : Model → Type 0} {s : Shape} (upper : Bool) (r : ℕ) (row : Row) (side : Side) (c : Float) (t : Term) → KeepsStep P s (λ M. side_step M upper r row side c t)
+side_keeps upper r row side c t = record { keeps = λ M k w p q i. inv_side upper r row side c t w i }
+
 module _ {A : Type 0} {g : Work → A} (b : Blind g) (M : Model) (upper : Bool) (r : ℕ) (row : Row) (side : Side) (c : Float) (t : Term) (w : Work) where
   leaves_rest : (rest : Option Float) → Leaves g w (from_rest M upper r row side c t rest w)
   unfolding from_rest implied
@@ -138,10 +145,30 @@ leaves_term b M r row act t w =
     rw (term_of M r row act t w) (same_then (λ w1. side_step M false r row (lo_of row act) _ t w1) (leaves_side b M true r row (hi_of row act) _ t w)
     (λ u. leaves_side b M false r row (lo_of row act) _ t u))
 
--- ---- implied_rest: a variable that stays as it is
-module _ {ds ss js : List ℕ} {s : Shape} {f : Floats} {n : Numbers} (upper : Bool) (r : ℕ) (x : Limits) (side : Side) (c : Float) (v : ℕ) (a rest : Float)
+-- ---- a half: by the rest of the row
+side_is : (M : Model) (upper : Bool) (r : ℕ) (row : Row) (side : Side) (c : Float) (t : Term) (w : Work) → side_step M upper r row side c t w ≡ from_rest M upper r row side c t (rest_at side c) w
+unfolding side_step rest_at choose
+side_is M upper r row side c t w = go (is_finite side.bound) (rest_of side.sum side.ninf c)
+  where
+    go : (b : Bool) (z : Option Float) → choose b (from_rest M upper r row side c t z w) (next w) ≡ from_rest M upper r row side c t (choose b z none) w
+    go true z = refl
+    go false z = sym (rest_none M upper r row side c t w)
+
+module _ (upper : Bool) (r : ℕ) (row : Row) (side : Side) (c : Float) (t : Term) {z : std.Option Float} (g : rest_is z ≡ rest_at side c) where
+  half_is : {y : std.Option Float} → z ≡ y → (M : Model) (w : Work) → side_step M upper r row side c t w ≡ from_rest M upper r row side c t (rest_is y) w
+  half_is e M w = side_is M upper r row side c t w ∙ ap (λ (y : Option Float). from_rest M upper r row side c t y w) (sym g ∙ ap rest_is e)
+
+  pub half_none : {P : Model → Type 0} {s : Shape} {f : Floats} {n : Numbers} → z ≡ std.None → Tries P s f n f n (Ok tt) (λ M. side_step M upper r row side c t)
+  half_none e = record { does = λ M o k w p d h i. went_by (half_is e M w ∙ rest_none M upper r row side c t w) h }
+
+  pub half_some : {P : Model → Type 0} {s : Shape} {f f' : Floats} {n n' : Numbers} {y : Outcome} {rest : Float} → z ≡ std.Some rest → Tries P s f n f' n' y (λ M. from_rest M upper r row side c t (some rest))
+      → Tries P s f n f' n' y (λ M. side_step M upper r row side c t)
+  half_some e k = tries_as (λ M o j w p d h i. half_is e M w) k
+
+-- ---- a bound that leaves its variable as it is
+module _ {lists : Lists} {s : Shape} {f : Floats} {n : Numbers} (upper : Bool) (r : ℕ) (x : Limits) (side : Side) (c : Float) (v : ℕ) (a rest : Float)
     {q : Float} {b : Bool} (eq : q ≡ quotient_of side.bound rest a) (eb : b ≡ bounds_above upper a) where
-  pub rest_still : Held a → Still ds s f side v q b → Tries (Moves ds ss js) s f n f n Next (λ M. from_rest M upper r (bare x) side c (term v a) (some rest))
+  rest_still : Held a → Still lists.domain.now s f side v q b → Tries (Moves lists) s f n f n (Ok tt) (λ M. from_rest M upper r (bare x) side c (term v a) (some rest))
   rest_still ha t =
       record {
         does = λ M o k w p d h i.
@@ -150,202 +177,72 @@ module _ {ds ss js : List ℕ} {s : Shape} {f : Floats} {n : Numbers} (upper : B
             (rest_some M upper r (bare x) side c (term v a) rest w
             ∙ ap (λ (y : Bool). choose y (tighten_upper M v (quotient_of side.bound rest a) u w) (tighten_lower M v (quotient_of side.bound rest a) u w)) (sym eb)
             ∙ ap (λ (y : Float). choose b (tighten_upper M v y u w) (tighten_lower M v y u w)) (sym eq)
-            ∙ t.stays.stays js M n o w (moves_bounding M p) d h u (relax_held M r (bare x) side c rest a) (t.relaxes.relaxed M r (bare x) side c rest a refl refl (sym d.feas) ha))
+            ∙ t.stays.stays lists M n o w refl (moves_bounding M p) d h u (relax_held M r (bare x) side c rest a) (t.relaxes.relaxed M r (bare x) side c rest a refl refl (sym d.feas) ha))
             h;
       }
 
--- ---- implied_rest: by the side's direction
-module _ {ds ss js : List ℕ} {s : Shape} {f f' : Floats} {n n' : Numbers} {z : code.Step} (upper : Bool) (r : ℕ) (x : Limits) (side : Side) (c : Float) (v : ℕ) (a rest : Float)
-    {q relax : Float} {l : ℕ} {b : Bool} (eq : q ≡ quotient_of side.bound rest a) (el : l ≡ get_or ss (r + 1) 0 - get_or ss r 0)
-    (er : Says s.feas l relax (λ M r'. relax_of M r' (bare x) side c rest a)) (eb : b ≡ bounds_above upper a) where
-  pub rest_upper : b ≡ true → Tries (Bounding ds js) s f n f' n' z (λ M. tighten_upper M v q relax) → Tries (Moves ds ss js) s f n f' n' z
-      (λ M. from_rest M upper r (bare x) side c (term v a) (some rest))
-  rest_upper y t =
+-- ---- a bound that may move, by the side's direction
+-- the row's limits are of the call and of the row
+of_these : {M : Model} {s : Shape} {ss : List ℕ} {r : ℕ} (x : Limits) → x.feas ≡ s.feas → x.terms ≡ get_or ss (r + 1) 0 - get_or ss r 0 → Call M s → Spans ss M → Of M r x.feas x.terms
+of_these x ef et c e =
+    let o = of_call c e et in
+    record { feas = o.feas ∙ sym ef; terms = o.terms; params = o.params }
+
+module _ {lists : Lists} {s : Shape} {f f' : Floats} {n n' : Numbers} {z : Outcome} (upper : Bool) (r : ℕ) (x : Limits) (side : Side) (c : Float) (v : ℕ) (a rest : Float)
+    {q relax : Float} {b : Bool} (eq : q ≡ quotient_of side.bound rest a) (ef : x.feas ≡ s.feas) (et : x.terms ≡ get_or lists.rows.starts.now (r + 1) 0 - get_or lists.rows.starts.now r 0)
+    (er : Says x.feas x.terms relax (λ M r'. relax_of M r' (bare x) side c rest a)) (eb : b ≡ bounds_above upper a) where
+  pub rest_tightens : Tries (Bounding lists) s f n f' n' z (tightens v q relax b) → Tries (Moves lists) s f n f' n' z (λ M. from_rest M upper r (bare x) side c (term v a) (some rest))
+  rest_tightens t =
       tries_as
       (λ M o k w p d h i.
-      rest_some M upper r (bare x) side c (term v a) rest w ∙ yes _ _ (sym eb ∙ y)
-      ∙ ap (λ (u : Float). tighten_upper M v u (relax_of M r (bare x) side c rest a) w) (sym eq)
-      ∙ ap (λ (u : Float). tighten_upper M v q u w) (sym (er.of M r (of_call d (moves_spans M p) el))))
+      let u = relax_of M r (bare x) side c rest a in
+      rest_some M upper r (bare x) side c (term v a) rest w
+      ∙ ap (λ (y : Bool). choose y (tighten_upper M v (quotient_of side.bound rest a) u w) (tighten_lower M v (quotient_of side.bound rest a) u w)) (sym eb)
+      ∙ ap (λ (y : Float). choose b (tighten_upper M v y u w) (tighten_lower M v y u w)) (sym eq)
+      ∙ ap (λ (y : Float). choose b (tighten_upper M v q y w) (tighten_lower M v q y w)) (sym (er.of M r (of_these x ef et d (moves_spans M p)))))
       (tries_under moves_bounding t)
-
-  pub rest_lower : b ≡ false → Tries (Bounding ds js) s f n f' n' z (λ M. tighten_lower M v q relax) → Tries (Moves ds ss js) s f n f' n' z
-      (λ M. from_rest M upper r (bare x) side c (term v a) (some rest))
-  rest_lower y t =
-      tries_as
-      (λ M o k w p d h i.
-      rest_some M upper r (bare x) side c (term v a) rest w ∙ no _ _ (sym eb ∙ y)
-      ∙ ap (λ (u : Float). tighten_lower M v u (relax_of M r (bare x) side c rest a) w) (sym eq)
-      ∙ ap (λ (u : Float). tighten_lower M v q u w) (sym (er.of M r (of_call d (moves_spans M p) el))))
-      (tries_under moves_bounding t)
-
--- ---- implied_side
-side_is : (M : Model) (upper : Bool) (r : ℕ) (row : Row) (side : Side) (c : Float) (t : Term) (z : Rest) (w : Work) → is_finite side.bound ≡ true → rest_is z ≡ rest_of side.sum side.ninf c
-    → side_step M upper r row side c t w ≡ from_rest M upper r row side c t (rest_is z) w
-unfolding side_step
-side_is M upper r row side c t z w e g = yes _ _ e ∙ ap (λ (y : Option Float). from_rest M upper r row side c t y w) (sym g)
-
-module _ {P : Model → Type 0} {s : Shape} {f : Floats} {n : Numbers} (upper : Bool) (r : ℕ) (row : Row) (side : Side) (c : Float) (t : Term) where
-  pub side_skip : is_finite side.bound ≡ false → Tries P s f n f n Next (λ M. side_step M upper r row side c t)
-  unfolding side_step
-  side_skip e = record { does = λ M o k w p d h i. went_by (no _ _ e) h }
-
-  module _ {z : Rest} (e : is_finite side.bound ≡ true) (g : rest_is z ≡ rest_of side.sum side.ninf c) where
-    pub side_open : z ≡ Unbounded → Tries P s f n f n Next (λ M. side_step M upper r row side c t)
-    side_open u =
-        record { does = λ M o k w p d h i. went_by (side_is M upper r row side c t z w e g ∙ ap (λ (y : Rest). from_rest M upper r row side c t (rest_is y) w) u ∙ rest_none M upper r row side c t w) h }
-
-    pub side_sum : {f' : Floats} {n' : Numbers} {y : code.Step} {rest : Float} → z ≡ Sum rest → Tries P s f n f' n' y
-        (λ M. from_rest M upper r row side c t (some rest)) → Tries P s f n f' n' y (λ M. side_step M upper r row side c t)
-    side_sum u k = tries_as (λ M o j w p d h i. side_is M upper r row side c t z w e g ∙ ap (λ (y : Rest). from_rest M upper r row side c t (rest_is y) w) u) k
 
 -- ---- quiet: a half that changes nothing, whatever row it is of
 pub record Quiet (ds : List ℕ) (s : Shape) (f : Floats) (side : Side) (upper : Bool) (c : Float) (v : ℕ) (a : Float) : Type 0 where
-  pub quiet : (ss js : List ℕ) (n : Numbers) (r : ℕ) (x : Limits) → Tries (Moves ds ss js) s f n f n Next (λ M. side_step M upper r (bare x) side c (term v a))
+  pub quiet : (lists : Lists) (n : Numbers) (r : ℕ) (x : Limits) → lists.domain.now ≡ ds → Tries (Moves lists) s f n f n (Ok tt) (λ M. side_step M upper r (bare x) side c (term v a))
 
-module _ {ds : List ℕ} {s : Shape} {f : Floats} (upper : Bool) (side : Side) (c : Float) (v : ℕ) (a : Float) where
-  pub quiet_skip : is_finite side.bound ≡ false → Quiet ds s f side upper c v a
-  quiet_skip e = record { quiet = λ ss js n r x. side_skip upper r (bare x) side c (term v a) e }
+module _ {ds : List ℕ} {s : Shape} {f : Floats} (upper : Bool) (side : Side) (c : Float) (v : ℕ) (a : Float) {z : std.Option Float} (g : rest_is z ≡ rest_at side c) where
+  pub quiet_none : z ≡ std.None → Quiet ds s f side upper c v a
+  quiet_none u = record { quiet = λ lists n r x d. half_none upper r (bare x) side c (term v a) g u }
 
-  module _ {z : Rest} (e : is_finite side.bound ≡ true) (g : rest_is z ≡ rest_of side.sum side.ninf c) where
-    pub quiet_open : z ≡ Unbounded → Quiet ds s f side upper c v a
-    quiet_open u = record { quiet = λ ss js n r x. side_open upper r (bare x) side c (term v a) e g u }
-
-    pub quiet_still : {rest q : Float} {b : Bool} → z ≡ Sum rest → q ≡ quotient_of side.bound rest a → b ≡ bounds_above upper a → Held a → Still ds s f side v q b → Quiet ds s f side upper c v a
-    quiet_still {rest} u eq eb ha t =
-        record { quiet = λ ss js n r x. side_sum upper r (bare x) side c (term v a) e g u (rest_still upper r x side c v a rest eq eb ha t) }
-
--- ---- implied_halves: the two halves, as turns of a loop
-unfoldable pub half_step : Model → Bool → ℕ → Row → Activity → Float → Float → Term → Work → Step
-half_step M upper r row act cmin cmax t w = side_step M upper r row (choose upper (hi_of row act) (lo_of row act)) (choose upper cmin cmax) t w
-
--- what is done before a half
-unfoldable pub done_before : Model → Bool → ℕ → Row → Activity → Float → Float → Term → Work → Step
-done_before M upper r row act cmin cmax t w = choose upper (next w) (half_step M true r row act cmin cmax t w)
-
-halves_are : (M : Model) (r : ℕ) (row : Row) (act : Activity) (cmin cmax : Float) (t : Term) (w : Work) → both M r row (hi_of row act) (lo_of row act) cmin cmax t w
-    ≡ (done_before M false r row act cmin cmax t w >>= λ w1. half_step M false r row act cmin cmax t w1)
-unfolding both half_step done_before choose
-halves_are M r row act cmin cmax t w = refl
-
-first_is : (M : Model) (r : ℕ) (row : Row) (act : Activity) (cmin cmax : Float) (t : Term) (w : Work) → done_before M false r row act cmin cmax t w
-    ≡ (done_before M true r row act cmin cmax t w >>= λ w1. half_step M true r row act cmin cmax t w1)
-unfolding done_before choose
-first_is M r row act cmin cmax t w = refl
-
-pub before_keeps : {P : Model → Type 0} {s : Shape} (upper : Bool) (r : ℕ) (row : Row) (act : Activity) (cmin cmax : Float) (t : Term) → KeepsStep P s (λ M. done_before M upper r row act cmin cmax t)
-unfolding done_before half_step
-before_keeps upper r row act cmin cmax t =
-    record { keeps = λ M k w p q i. either (InvStep M k) upper (λ e. goes i) (λ e. inv_side true r row _ _ t w i) }
-
-module _ {P : Model → Type 0} {s : Shape} {f f' : Floats} {n n' : Numbers} {z : code.Step} where
-  pub half_is : (upper : Bool) (r : ℕ) (x : Limits) (act : Activity) (cmin cmax : Float) (t : Term) {side : Side} {c : Float}
-      → side ≡ choose upper (hi_of (bare x) act) (lo_of (bare x) act) → c ≡ choose upper cmin cmax
-      → Tries P s f n f' n' z (λ M. side_step M upper r (bare x) side c t) → Tries P s f n f' n' z (λ M. half_step M upper r (bare x) act cmin cmax t)
-  unfolding half_step
-  half_is upper r x act cmin cmax t {side} {c} e g h =
-      tries_as
-      (λ M o k w p d y i.
-      ap (λ (u : Side). side_step M upper r (bare x) u (choose upper cmin cmax) t w) (sym e) ∙ ap (λ (u : Float). side_step M upper r (bare x) side u t w) (sym g)) h
-
--- the turns that come after a half
-unfoldable pub turns_left : Bool → ℕ
-turns_left true = 1
-turns_left false = 0
-
-pub turns_less : {upper : Bool} → upper ≡ true → turns_left false < turns_left upper
-unfolding turns_left
-turns_less e = subst (λ (b : Bool). turns_left false < turns_left b) (sym e) (omega arith)
-
-before_start : {P : Model → Type 0} {s : Shape} {f : Floats} {n : Numbers} (r : ℕ) (row : Row) (act : Activity) (cmin cmax : Float) (t : Term)
-    → Tries P s f n f n Next (λ M. done_before M true r row act cmin cmax t)
-unfolding done_before choose
-before_start r row act cmin cmax t = record { does = λ M o k w p d h i. went_by refl h }
-
--- an infinite side's half does nothing
-upper_none : (M : Model) (r : ℕ) (x : Limits) (act : Activity) (cmin cmax : Float) (t : Term) (w : Work) → is_finite x.hi ≡ false → done_before M false r (bare x) act cmin cmax t w ≡ next w
-unfolding done_before half_step side_step choose
-upper_none M r x act cmin cmax t w e = no _ _ e
-
-lower_none : (M : Model) (r : ℕ) (x : Limits) (act : Activity) (cmin cmax : Float) (t : Term) (w : Work) → is_finite x.lo ≡ false → half_step M false r (bare x) act cmin cmax t w ≡ next w
-unfolding half_step side_step choose
-lower_none M r x act cmin cmax t w e = no _ _ e
-
-module _ {P : Model → Type 0} {s : Shape} {f : Floats} {n : Numbers} (r : ℕ) (x : Limits) (act : Activity) (cmin cmax : Float) (t : Term) where
-  pub before_first : (upper : Bool) → upper ≡ is_finite x.hi → Tries P s f n f n Next (λ M. done_before M upper r (bare x) act cmin cmax t)
-  before_first true e = before_start r (bare x) act cmin cmax t
-  before_first false e = record { does = λ M o k w p d h i. went_by (upper_none M r x act cmin cmax t w (sym e)) h }
-
-  half_none : is_finite x.lo ≡ false → Tries P s f n f n Next (λ M. half_step M false r (bare x) act cmin cmax t)
-  half_none e = record { does = λ M o k w p d h i. went_by (lower_none M r x act cmin cmax t w e) h }
-
-module _ {P : Model → Type 0} {s : Shape} {f₀ f f₁ : Floats} {n₀ n n₁ : Numbers} {z : code.Step} (r : ℕ) (row : Row) (act : Activity) (cmin cmax : Float) (t : Term) where
-  pub first_half : {upper : Bool} → upper ≡ true → Tries P s f₀ n₀ f n Next (λ M. done_before M upper r row act cmin cmax t) → Tries P s f n f₁ n₁ z (λ M. half_step M upper r row act cmin cmax t)
-      → Tries P s f₀ n₀ f₁ n₁ z (λ M. done_before M false r row act cmin cmax t)
-  first_half {upper} e b h =
-      tries_as
-      (λ M o k w p d y i.
-      first_is M r row act cmin cmax t w ∙ ap (λ (u : Bool). done_before M u r row act cmin cmax t w >>= λ w1. half_step M u r row act cmin cmax t w1) (sym e))
-      (tries_then b (before_keeps upper r row act cmin cmax t) h)
-
--- the halves of a term, its parts at both corners taken before
-unfoldable pub halves : Model → ℕ → Row → Activity → Float → Float → Term → Work → Step
-halves M r row act cmin cmax t w = done_before M false r row act cmin cmax t w >>= λ w1. half_step M false r row act cmin cmax t w1
-
-halves_by : (M : Model) (r : ℕ) (row : Row) (act : Activity) (cmin cmax : Float) (t : Term) (w : Work) → halves M r row act cmin cmax t w
-    ≡ (done_before M false r row act cmin cmax t w >>= λ w1. half_step M false r row act cmin cmax t w1)
-unfolding halves
-halves_by M r row act cmin cmax t w = refl
-
-module _ {P : Model → Type 0} {s : Shape} {f₀ f f₁ : Floats} {n₀ n n₁ : Numbers} (r : ℕ) (x : Limits) (act : Activity) (cmin cmax : Float) (t : Term) where
-  pub halves_end : {upper : Bool} {z : code.Step} → upper ≡ false → Tries P s f₀ n₀ f n Next (λ M. done_before M upper r (bare x) act cmin cmax t)
-      → Tries P s f n f₁ n₁ z (λ M. half_step M upper r (bare x) act cmin cmax t)
-      → Tries P s f₀ n₀ f₁ n₁ z (λ M. halves M r (bare x) act cmin cmax t)
-  halves_end {upper} e b h =
-      tries_as
-      (λ M o k w p d y i.
-      halves_by M r (bare x) act cmin cmax t w ∙ ap (λ (u : Bool). done_before M u r (bare x) act cmin cmax t w >>= λ w1. half_step M u r (bare x) act cmin cmax t w1) (sym e))
-      (tries_then b (before_keeps upper r (bare x) act cmin cmax t) h)
-
-  pub halves_stop : (upper : Bool) → Tries P s f₀ n₀ f n Next (λ M. done_before M upper r (bare x) act cmin cmax t) → Tries P s f n f₁ n₁ Stop (λ M. half_step M upper r (bare x) act cmin cmax t)
-      → Tries P s f₀ n₀ f₁ n₁ Stop (λ M. halves M r (bare x) act cmin cmax t)
-  halves_stop true b h =
-      tries_as (λ M o k w p d y i. halves_by M r (bare x) act cmin cmax t w) (tries_stop (λ M. half_step M false r (bare x) act cmin cmax t) (first_half r (bare x) act cmin cmax t refl b h))
-  halves_stop false b h = halves_end refl b h
-
-module _ {P : Model → Type 0} {s : Shape} {f₀ f f₁ : Floats} {n₀ n n₁ : Numbers} (r : ℕ) (x : Limits) (act : Activity) (cmin cmax : Float) (t : Term) where
-  -- a row with no lower side has one half
-  pub halves_upper : {upper : Bool} {y : Bool} → upper ≡ true → y ≡ is_finite x.lo → y ≡ false → Tries P s f₀ n₀ f n Next (λ M. done_before M upper r (bare x) act cmin cmax t)
-      → Tries P s f n f₁ n₁ Next (λ M. half_step M upper r (bare x) act cmin cmax t) → Tries P s f₀ n₀ f₁ n₁ Next (λ M. halves M r (bare x) act cmin cmax t)
-  halves_upper e g i b h = halves_end r x act cmin cmax t refl (first_half r (bare x) act cmin cmax t e b h) (half_none r x act cmin cmax t (sym g ∙ i))
-
--- neither half changes anything
-quiet_halves : {ds ss js : List ℕ} {s : Shape} {f : Floats} {n : Numbers} (r : ℕ) (x : Limits) (act : Activity) (v : ℕ) (a cmin cmax : Float) {high low : Side}
-    → high ≡ hi_of (bare x) act → low ≡ lo_of (bare x) act
-    → Quiet ds s f high true cmin v a → Quiet ds s f low false cmax v a → Tries (Moves ds ss js) s f n f n Next (λ M. halves M r (bare x) act cmin cmax (term v a))
-quiet_halves {ss = ss} {js = js} {n = n} r x act v a cmin cmax eh el p q =
-    halves_end r x act cmin cmax (term v a) refl
-    (first_half r (bare x) act cmin cmax (term v a) refl (before_start r (bare x) act cmin cmax (term v a))
-    (half_is true r x act cmin cmax (term v a) (eh ∙ sym (yes _ _ refl)) (sym (yes _ _ refl)) (p.quiet ss js n r x)))
-    (half_is false r x act cmin cmax (term v a) (el ∙ sym (no _ _ refl)) (sym (no _ _ refl)) (q.quiet ss js n r x))
+  pub quiet_still : {rest q : Float} {b : Bool} → z ≡ std.Some rest → q ≡ quotient_of side.bound rest a → b ≡ bounds_above upper a → Held a → Still ds s f side v q b → Quiet ds s f side upper c v a
+  quiet_still {rest} {q} {b} u eq eb ha t =
+      record {
+        quiet = λ lists n r x d.
+            half_some upper r (bare x) side c (term v a) g u
+            (rest_still {lists = lists} upper r x side c v a rest eq eb ha (subst (λ (l : List ℕ). Still l s f side v q b) (sym d) t));
+      }
 
 -- ---- implied_term: its halves, of the parts that its variable's bounds give
-module _ {f : Floats} (r : ℕ) (x : Limits) (act : Activity) (v : ℕ) (a : Float) {lo hi cmin cmax : Float} (e₁ : lo ≡ get_or f.wlo v nan) (e₂ : hi ≡ get_or f.whi v nan)
-    (e₃ : cmin ≡ range_min a lo hi) (e₄ : cmax ≡ range_max a lo hi) where
-  term_is : {M : Model} {n : Numbers} {o : List ℕ} {w : Work} → Shows M f n o w → implied_term M r (bare x) act (term v a) w ≡ halves M r (bare x) act cmin cmax (term v a) w
+module _ {f : Floats} (r : ℕ) (x : Limits) (act : Activity) (v : ℕ) (a : Float) {lo hi cmin cmax : Float} {high low : Side} (e₁ : lo ≡ get_or f.wlo v nan) (e₂ : hi ≡ get_or f.whi v nan)
+    (e₃ : cmin ≡ range_min a lo hi) (e₄ : cmax ≡ range_max a lo hi) (e₅ : high ≡ hi_of (bare x) act) (e₆ : low ≡ lo_of (bare x) act) where
+  term_is : {M : Model} {n : Numbers} {o : List ℕ} {w : Work} → Shows M f n o w → implied_term M r (bare x) act (term v a) w ≡ both M r (bare x) high low cmin cmax (term v a) w
   term_is {M} {n} {o} {w} h =
       let b₁ : range_min a (at w.wlo v) (at w.whi v) ≡ cmin = cc (wlo_is v h e₁, whi_is v h e₂, e₃) in
       let b₂ : range_max a (at w.wlo v) (at w.whi v) ≡ cmax = cc (wlo_is v h e₁, whi_is v h e₂, e₄) in
       term_of M r (bare x) act (term v a) w
       ∙ ap (λ (y : Float). both M r (bare x) (hi_of (bare x) act) (lo_of (bare x) act) y (range_max a (at w.wlo v) (at w.whi v)) (term v a) w) b₁
       ∙ ap (λ (y : Float). both M r (bare x) (hi_of (bare x) act) (lo_of (bare x) act) cmin y (term v a) w) b₂
-      ∙ halves_are M r (bare x) act cmin cmax (term v a) w
-      ∙ sym (halves_by M r (bare x) act cmin cmax (term v a) w)
+      ∙ ap (λ (y : Side). both M r (bare x) y (lo_of (bare x) act) cmin cmax (term v a) w) (sym e₅)
+      ∙ ap (λ (y : Side). both M r (bare x) high y cmin cmax (term v a) w) (sym e₆)
 
-  pub term_halves : {P : Model → Type 0} {s : Shape} {n n₁ : Numbers} {f₁ : Floats} {z : code.Step} → Tries P s f n f₁ n₁ z
-      (λ M. halves M r (bare x) act cmin cmax (term v a)) → Tries P s f n f₁ n₁ z (λ M. implied_term M r (bare x) act (term v a))
-  term_halves t = tries_as (λ M o k w p d y i. term_is y) t
+  module _ {P : Model → Type 0} {s : Shape} {n : Numbers} where
+    -- the second half after the first, and a first half that stops
+    pub term_then : {n₁ n₂ : Numbers} {f₁ f₂ : Floats} {z : Outcome} → Tries P s f n f₁ n₁ (Ok tt) (λ M. side_step M true r (bare x) high cmin (term v a))
+        → Tries P s f₁ n₁ f₂ n₂ z (λ M. side_step M false r (bare x) low cmax (term v a)) → Tries P s f n f₂ n₂ z (λ M. implied_term M r (bare x) act (term v a))
+    unfolding both
+    term_then t u = tries_as (λ M o k w p d y i. term_is y) (tries_then t (side_keeps true r (bare x) high cmin (term v a)) u)
 
-  pub term_quiet : {ds ss js : List ℕ} {s : Shape} {n : Numbers} {high low : Side} → high ≡ hi_of (bare x) act → low ≡ lo_of (bare x) act
-      → Quiet ds s f high true cmin v a → Quiet ds s f low false cmax v a
-      → Tries (Moves ds ss js) s f n f n Next (λ M. implied_term M r (bare x) act (term v a))
-  term_quiet eh el p q = term_halves (quiet_halves r x act v a cmin cmax eh el p q)
+    pub term_stop : {n₁ : Numbers} {f₁ : Floats} {e : Infeasible} → Tries P s f n f₁ n₁ (Err e) (λ M. side_step M true r (bare x) high cmin (term v a))
+        → Tries P s f n f₁ n₁ (Err e) (λ M. implied_term M r (bare x) act (term v a))
+    unfolding both
+    term_stop t = tries_as (λ M o k w p d y i. term_is y) (tries_stop (λ M. side_step M false r (bare x) low cmax (term v a)) t)
+
+  pub term_quiet : {lists : Lists} {s : Shape} {n : Numbers} → Quiet lists.domain.now s f high true cmin v a → Quiet lists.domain.now s f low false cmax v a
+      → Tries (Moves lists) s f n f n (Ok tt) (λ M. implied_term M r (bare x) act (term v a))
+  term_quiet {lists} {s} {n} p q = term_then (p.quiet lists n r x refl) (q.quiet lists n r x refl)

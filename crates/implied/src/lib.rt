@@ -7,302 +7,156 @@
 // relaxed by is computed.
 #![tactic(auto)]
 
-ghost use Rattle.std.specs.Prelude.{◌+◌, ◌-◌, ◌<◌, ◌≡◌, true, false, length, get_or};
-ghost use Rattle.std.proofs.Math.Option.{some};
-ghost use Rattle.floats.specs.Num.{choose};
+ghost use Rattle.std.specs.Prelude.{◌+◌, ◌-◌, ◌<◌, ◌≡◌, true, length, get_or};
 ghost use Rattle.tolerances.specs.Tol.{term};
 ghost use Rattle.definition.specs.Implied as definition;
 ghost use Rattle.space.specs.Store.{floats_of, numbers_of, HoldsF, HoldsN};
 ghost use Rattle.formulas.specs.Bare.{bare};
-ghost use Rattle.formulas.specs.Implied.{hi_of, lo_of};
+ghost use Rattle.formulas.specs.Implied.{rest_is};
 ghost use Rattle.view.specs.Acts.{Ready, Tries};
 ghost use Rattle.readers.specs.Reading.{row_of, Alive};
 ghost use Rattle.rows.specs.Knowing.{Moves};
-ghost use Rattle.implied.specs.Sides.{Still, Quiet, from_rest, side_step, half_step, halves};
+ghost use Rattle.implied.specs.Sides.{Quiet, rest_at, side_step};
 
-use definition::Activity;
-use formulas::{Limits, Rest, Side};
-use space::{Shape, Step};
+use definition::{Activity, Infeasible};
+use formulas::{Limits, Side};
+use space::{Coeffs, Len, Shape, Vars, Whi, Wlo, get};
+use view::Lists;
 
-// Whether an implied bound q leaves its variable as it is, whatever the row's magnitude relaxes it by.
-fn still(domain: &[u8], w: &[f64], s: Shape, side: Side, v: usize, q: f64, above: bool) -> bool
-    requires { (v < s.vars) × HoldsF s w.now × (v < length domain.now) }
-    ensures { result ≡ true → Still domain.now s (floats_of s w.now) side v q above }
-{
-    if formulas::relaxes(s.feas, side.abs, side.slack) {
-        return bounds::stays(domain, w, s, v, q, above);
-    }
-    false
-}
-
-// = implied, where the rest of the row has a sum
-fn implied_rest(
-    domain: &[u8],
-    starts: &[usize],
-    adj: &[usize],
-    w: &mut [f64],
-    m: &mut [usize],
-    s: Shape,
-    r: usize,
-    terms: usize,
-    x: Limits,
-    side: Side,
+// A half of what a row says of a term: one side of the row, the upper one where upper, and the term, variable v by coefficient a,
+// which has the part c at that side's corner.
+#[derive(Clone, Copy)]
+struct Half {
     upper: bool,
+    side: Side,
     c: f64,
     v: usize,
     a: f64,
-    rest: f64,
-) -> Step
-    requires r_lt_rows { (r < s.rows) × (v < s.vars) × HoldsF s w.old × HoldsN s m.old }
-    requires ready { Ready (Moves domain.now starts.now adj.now) s (floats_of s w.old) (numbers_of s m.old) }
-    requires terms_value { terms ≡ get_or starts.now (r + 1) 0 - get_or starts.now r 0 }
-    ensures { Tries (Moves domain.now starts.now adj.now) s (floats_of s w.old) (numbers_of s m.old)
-        (floats_of s w.new) (numbers_of s m.new) result (λ M. from_rest M upper r (bare x) side c (term v a) (some rest)) }
-{
-    let q = formulas::quotient(side, rest, a);
-    let above = formulas::bounds_above(upper, a);
-    let relax = formulas::relaxation(s.feas, terms, x, side, c, rest, a);
-    if above {
-        return bounds::tighten_upper(domain, adj, w, m, s, v, q, relax);
-    }
-    bounds::tighten_lower(domain, adj, w, m, s, v, q, relax)
 }
 
-// = a half of implied_term: implied, where the side is finite
-fn implied_side(
-    domain: &[u8],
-    starts: &[usize],
-    adj: &[usize],
-    w: &mut [f64],
-    m: &mut [usize],
-    s: Shape,
-    r: usize,
-    terms: usize,
-    x: Limits,
-    side: Side,
-    upper: bool,
-    c: f64,
-    v: usize,
-    a: f64,
-) -> Step
-    requires r_lt_rows { (r < s.rows) × (v < s.vars) × HoldsF s w.old × HoldsN s m.old }
-    requires ready { Ready (Moves domain.now starts.now adj.now) s (floats_of s w.old) (numbers_of s m.old) }
-    requires terms_value { terms ≡ get_or starts.now (r + 1) 0 - get_or starts.now r 0 }
-    ensures { Tries (Moves domain.now starts.now adj.now) s (floats_of s w.old) (numbers_of s m.old)
-        (floats_of s w.new) (numbers_of s m.new) result (λ M. side_step M upper r (bare x) side c (term v a)) }
-{
-    if floats::is_finite(side.bound) {
-        match formulas::rest_of(side, c) {
-            Rest::Sum(rest) => {
-                return implied_rest(
-                    domain, starts, adj, w, m, s, r, terms, x, side, upper, c, v, a, rest,
-                );
-            }
-            Rest::Unbounded => {
-                return Step::Next;
-            }
+impl Half {
+    // The rest of the row at the side's corner: none where the side is infinite or the rest has no sum.
+    #[tactic(auto, unfolding(floats::specs::Num::choose, crate::specs::Sides::rest_at))]
+    fn rest(self) -> Option<f64>
+        ensures { rest_is result ≡ rest_at self.side self.c }
+    {
+        if floats::is_finite(self.side.bound) {
+            self.side.rest_of(self.c)
+        } else {
+            None
         }
     }
-    Step::Next
-}
 
-// Whether a half of implied_term changes nothing: an infinite side, a rest with no sum, or a bound that leaves its variable as
-// it is.
-fn quiet(
-    domain: &[u8],
-    w: &[f64],
-    s: Shape,
-    side: Side,
-    upper: bool,
-    c: f64,
-    v: usize,
-    a: f64,
-) -> bool
-    requires { (v < s.vars) × HoldsF s w.now × (v < length domain.now) }
-    ensures { result ≡ true → Quiet domain.now s (floats_of s w.now) side upper c v a }
-{
-    if floats::is_finite(side.bound) {
-        match formulas::rest_of(side, c) {
-            Rest::Sum(rest) => {
-                let q = formulas::quotient(side, rest, a);
-                let above = formulas::bounds_above(upper, a);
-                return still(domain, w, s, side, v, q, above);
+    // Whether the half changes nothing: there is no rest, or what it implies leaves the variable as it is, whatever the row's
+    // magnitude relaxes it by.
+    fn quiet(self, domain: &[u8], w: &[f64], s: Shape) -> bool
+        requires { (self.v < s.vars) × HoldsF s w.now × (self.v < length domain.now) }
+        ensures { result ≡ true → Quiet domain.now s (floats_of s w.now) self.side self.upper self.c self.v self.a }
+    {
+        match self.rest() {
+            Some(rest) => {
+                let q = self.side.quotient(rest, self.a);
+                let above = formulas::bounds_above(self.upper, self.a);
+                self.side.relaxes(s.feas) && bounds::stays(domain, w, s, self.v, q, above)
             }
-            Rest::Unbounded => {
-                return true;
-            }
+            None => true,
         }
     }
-    true
-}
 
-// The side that a half looks at, and the term's part at its corner.
-fn side_of(upper: bool, x: Limits, act: Activity) -> Side
-    ensures { result ≡ choose upper (hi_of (bare x) act) (lo_of (bare x) act) }
-{
-    if upper {
-        return formulas::hi_of(x, act);
-    }
-    formulas::lo_of(x, act)
-}
-
-fn part_of(upper: bool, cmin: f64, cmax: f64) -> f64
-    ensures { result ≡ choose upper cmin cmax }
-{
-    if upper {
-        return cmin;
-    }
-    cmax
-}
-
-// = a half of implied_term, by its side
-fn implied_half(
-    domain: &[u8],
-    starts: &[usize],
-    adj: &[usize],
-    w: &mut [f64],
-    m: &mut [usize],
-    s: Shape,
-    r: usize,
-    terms: usize,
-    x: Limits,
-    act: Activity,
-    upper: bool,
-    cmin: f64,
-    cmax: f64,
-    v: usize,
-    a: f64,
-) -> Step
-    requires r_lt_rows { (r < s.rows) × (v < s.vars) × HoldsF s w.old × HoldsN s m.old }
-    requires ready { Ready (Moves domain.now starts.now adj.now) s (floats_of s w.old) (numbers_of s m.old) }
-    requires terms_value { terms ≡ get_or starts.now (r + 1) 0 - get_or starts.now r 0 }
-    ensures { Tries (Moves domain.now starts.now adj.now) s (floats_of s w.old) (numbers_of s m.old)
-        (floats_of s w.new) (numbers_of s m.new) result (λ M. half_step M upper r (bare x) act cmin cmax (term v a)) }
-{
-    let side = side_of(upper, x, act);
-    let c = part_of(upper, cmin, cmax);
-    implied_side(
-        domain, starts, adj, w, m, s, r, terms, x, side, upper, c, v, a,
-    )
-}
-
-// = halves: a loop's two turns, so that the code of a side stands once and is compiled into its caller; an infinite side has no
-// turn.
-fn implied_halves(
-    domain: &[u8],
-    starts: &[usize],
-    adj: &[usize],
-    w: &mut [f64],
-    m: &mut [usize],
-    s: Shape,
-    r: usize,
-    terms: usize,
-    x: Limits,
-    act: Activity,
-    cmin: f64,
-    cmax: f64,
-    v: usize,
-    a: f64,
-) -> Step
-    requires r_lt_rows { (r < s.rows) × (v < s.vars) × HoldsF s w.old × HoldsN s m.old }
-    requires ready { Ready (Moves domain.now starts.now adj.now) s (floats_of s w.old) (numbers_of s m.old) }
-    requires terms_value { terms ≡ get_or starts.now (r + 1) 0 - get_or starts.now r 0 }
-    ensures { Tries (Moves domain.now starts.now adj.now) s (floats_of s w.old) (numbers_of s m.old)
-        (floats_of s w.new) (numbers_of s m.new) result (λ M. halves M r (bare x) act cmin cmax (term v a)) }
-{
-    let mut upper = floats::is_finite(x.hi);
-    loop {
-        match implied_half(
-            domain, starts, adj, w, m, s, r, terms, x, act, upper, cmin, cmax, v, a,
-        ) {
-            Step::Stop => {
-                return Step::Stop;
+    // = side_step. Compiled into both its places, so that nothing of the half goes through memory.
+    #[inline(always)]
+    fn tighten(
+        self,
+        lists: Lists,
+        w: &mut [f64],
+        m: &mut [usize],
+        s: Shape,
+        r: usize,
+        x: Limits,
+    ) -> Result<(), Infeasible>
+        requires v_lt_vars { (self.v < s.vars) × HoldsF s w.old × HoldsN s m.old }
+        requires ready { Ready (Moves lists) s (floats_of s w.old) (numbers_of s m.old) }
+        requires limits { (x.feas ≡ s.feas) × (x.terms ≡ get_or lists.rows.starts.now (r + 1) 0 - get_or lists.rows.starts.now r 0) }
+        ensures { Tries (Moves lists.entry) s (floats_of s w.old) (numbers_of s m.old) (floats_of s w.new) (numbers_of s m.new)
+            result (λ M. side_step M self.upper r (bare x) self.side self.c (term self.v self.a)) }
+    {
+        match self.rest() {
+            Some(rest) => {
+                let q = self.side.quotient(rest, self.a);
+                let above = formulas::bounds_above(self.upper, self.a);
+                let relax = x.relaxation(self.side, self.c, rest, self.a);
+                bounds::tighten(lists, w, m, s, self.v, q, relax, above)
             }
-            Step::Next => {
-                if upper {
-                    if floats::is_finite(x.lo) {
-                        upper = false;
-                    } else {
-                        return Step::Next;
-                    }
-                } else {
-                    return Step::Next;
-                }
-            }
+            None => Ok(()),
         }
     }
 }
 
 // = implied_term: both parts of the term are taken before either side. Mostly neither half changes anything, which is seen
-// before either is gone through.
+// before either is gone through. lists, w, m, s and r are every step's (space says why they stay apart), x and act the row's. v and a,
+// one term, are read out of two slices and go into both halves.
 fn implied_term(
-    domain: &[u8],
-    starts: &[usize],
-    adj: &[usize],
+    lists: Lists,
     w: &mut [f64],
     m: &mut [usize],
     s: Shape,
     r: usize,
-    terms: usize,
     x: Limits,
     act: Activity,
     v: usize,
     a: f64,
-) -> Step
-    requires r_lt_rows { (r < s.rows) × (v < s.vars) × HoldsF s w.old × HoldsN s m.old }
-    requires ready { Ready (Moves domain.now starts.now adj.now) s (floats_of s w.old) (numbers_of s m.old) }
-    requires terms_value { terms ≡ get_or starts.now (r + 1) 0 - get_or starts.now r 0 }
-    ensures { Tries (Moves domain.now starts.now adj.now) s (floats_of s w.old) (numbers_of s m.old)
+) -> Result<(), Infeasible>
+    requires v_lt_vars { (v < s.vars) × HoldsF s w.old × HoldsN s m.old }
+    requires ready { Ready (Moves lists) s (floats_of s w.old) (numbers_of s m.old) }
+    requires limits { (x.feas ≡ s.feas) × (x.terms ≡ get_or lists.rows.starts.now (r + 1) 0 - get_or lists.rows.starts.now r 0) }
+    ensures { Tries (Moves lists.entry) s (floats_of s w.old) (numbers_of s m.old)
         (floats_of s w.new) (numbers_of s m.new) result (λ M. definition.implied_term M r (bare x) act (term v a)) }
 {
-    let lo = space::get_wlo(w, s, v);
-    let hi = space::get_whi(w, s, v);
-    let cmin = formulas::range_min(a, lo, hi);
-    let cmax = formulas::range_max(a, lo, hi);
-    let high = formulas::hi_of(x, act);
-    if quiet(domain, w, s, high, true, cmin, v, a) {
-        let low = formulas::lo_of(x, act);
-        if quiet(domain, w, s, low, false, cmax, v, a) {
-            return Step::Next;
-        }
+    let lo = get::<Wlo>(w, s, v);
+    let hi = get::<Whi>(w, s, v);
+    let high = Half {
+        upper: true,
+        side: x.hi_of(act),
+        c: formulas::range_min(a, lo, hi),
+        v,
+        a,
+    };
+    let low = Half {
+        upper: false,
+        side: x.lo_of(act),
+        c: formulas::range_max(a, lo, hi),
+        v,
+        a,
+    };
+    if high.quiet(lists.domain, w, s) && low.quiet(lists.domain, w, s) {
+        return Ok(());
     }
-    implied_halves(
-        domain, starts, adj, w, m, s, r, terms, x, act, cmin, cmax, v, a,
-    )
+    high.tighten(lists, w, m, s, r, x)?;
+    low.tighten(lists, w, m, s, r, x)
 }
 
 // = implied_bounds, of the row that stands in the state
 pub fn implied_bounds(
-    domain: &[u8],
-    starts: &[usize],
-    adj: &[usize],
+    lists: Lists,
     w: &mut [f64],
     m: &mut [usize],
     s: Shape,
     r: usize,
     act: Activity,
-) -> Step
+) -> Result<(), Infeasible>
     requires r_lt_rows { (r < s.rows) × HoldsF s w.old × HoldsN s m.old × Alive (numbers_of s m.old) r }
-    requires ready { Ready (Moves domain.now starts.now adj.now) s (floats_of s w.old) (numbers_of s m.old) }
-    ensures { Tries (Moves domain.now starts.now adj.now) s (floats_of s w.entry.now) (numbers_of s m.old)
+    requires ready { Ready (Moves lists) s (floats_of s w.old) (numbers_of s m.old) }
+    ensures { Tries (Moves lists.entry) s (floats_of s w.entry.now) (numbers_of s m.old)
         (floats_of s w.exit.now) (numbers_of s m.new) result (λ M w. definition.implied_bounds M r (row_of w r) act (row_of w r).terms w) }
 {
-    let x = readers::limits(w, s, r);
-    let terms = rows::written_terms(starts, r);
-    let a = starts[r];
-    let n = space::get_len(m, s, r);
-    let mut i: usize = 0;
-    while i < n {
-        let v = space::get_var(m, s, a + i);
-        let c = space::get_coeff(w, s, a + i);
-        match implied_term(domain, starts, adj, w, m, s, r, terms, x, act, v, c) {
-            Step::Stop => {
-                return Step::Stop;
-            }
-            Step::Next => {
-                i += 1;
-            }
-        }
+    // Forcing and singles write these two calls too: readers, which has the limits, stands below rows, which has the count, and other
+    // callers ask with a count of their own.
+    let x = readers::limits(w, s, r, rows::written_terms(lists.rows.starts, r));
+    let a = lists.rows.starts[r];
+    for i in 0..get::<Len>(m, s, r) {
+        let v = get::<Vars>(m, s, a + i);
+        let c = get::<Coeffs>(w, s, a + i);
+        implied_term(lists, w, m, s, r, x, act, v, c)?;
     }
-    Step::Next
+    Ok(())
 }

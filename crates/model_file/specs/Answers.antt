@@ -1,7 +1,7 @@
 -- The reader's answers: from what the checking pass saw, and the room there is, to the answer and the slices.
-use Rattle.std.specs.Prelude.{ℕ, suc, ◌+◌, ◌≤◌, ◌<◌, ◌≡◌, refl, Bool, true, false, ◌&&◌, set, leb}
+use Rattle.std.specs.Prelude.{ℕ, suc, ◌+◌, ◌≤◌, ◌<◌, ◌≡◌, refl, Bool, true, false, ◌&&◌, leb}
 use Rattle.std.proofs.Math.Path.{ap}
-use Rattle.std.proofs.Common.{sym, ◌∙◌, true≢false, arith, leb-true}
+use Rattle.std.proofs.Common.{sym, subst, ◌∙◌, true≢false, arith, leb-true}
 use mathlib.Core.List.{List, [], ◌∷◌, map}
 use Rattle.std.proofs.Math.ListN.{length, length-map}
 use Rattle.std.proofs.lemmas.List.Edits.{sets}
@@ -10,11 +10,10 @@ use Rattle.model_file.specs.declared.Variable.{Variable}
 use Rattle.model_file.specs.declared.Term.{Term}
 use Rattle.model_file.specs.declared.Settings.{Settings}
 use Rattle.model_file.specs.declared.Header.{Header}
-use Rattle.model_file.specs.declared.FileRead.{FileRead}
 use Rattle.model_file.specs.Format.{refused, got, many, settings, variable, Row, rows, ends, all_terms, Lists, lists, Decoded, refusal, file, decode}
-use Rattle.model_file.specs.Reading.{Slices, slices, over, filled, room, room_vars, room_rows, header_of, Out, out, into, read_into}
+use Rattle.model_file.specs.Reading.{FileRead, Slices, slices, over, filled, room, room_vars, room_rows, room_of, header_of, Out, out, into, read_into}
 use Rattle.model_file.specs.Skips.{seen, map_got, skipped, after, after_length, many_length, rows_are_lem, had, had_not, scan_unsettled}
-use Rattle.model_file.specs.Fills.{fill, VarColumns, var_columns, put_var, RowColumns, row_columns, fill_rows, Within}
+use Rattle.model_file.specs.Fills.{fill, put_var, put_start, Sizes, sizes, sizes_var, sizes_fill, VarPlace, fill_rows, Within, Roomy}
 use Rattle.model_file.specs.Leaves.{put_all, fill_all, put_vars, with_rows, put_rows, over_sets, Opened, opened}
 
 -- a file that was checked, and for which there is room
@@ -59,6 +58,14 @@ first b p = rw p
 second : {a b : Bool} → a ≡ true → b ≡ false → a && b ≡ false
 second p q = rw (p, q)
 
+left : (a b : Bool) → a && b ≡ true → a ≡ true
+left true b e = refl
+left false b e = e
+
+right : (a b : Bool) → a && b ≡ true → b ≡ true
+right true b e = e
+right false b e = absurd (true≢false (sym e))
+
 module _ (s : List ℕ) (l : Slices) where
   pub answer_refused : {n : ℕ} → FileRead.Refused n ≡ seen (decode s) → out (FileRead.Refused n) l ≡ read_into s l
   unfolding read_into into
@@ -93,15 +100,18 @@ module _ (s : List ℕ) (l : Slices) where
           let z : out (FileRead.Model (header_of f.lists)) (filled f.lists l) ≡ read_into s l = answer_full f.is (lists_room f.lists h l f.header ∙ both p q) in
           ap (λ (x : Header). out (FileRead.Model x) k) f.header ∙ ap (out (FileRead.Model (header_of f.lists))) (g ∙ sym (ap (λ (o : Out). o.lent) z)) ∙ z
 
+    -- the same by one test of the room
+    pub answer_few : room_of h l ≡ false → out (FileRead.Refused 10) l ≡ read_into s l
+    answer_few p = let f = saw (decode s) h e in answer_short f.is (lists_room f.lists h l f.header ∙ p)
+
+    module _ (p : room_of h l ≡ true) where
+      pub answer_roomy : Ready s l
+      answer_roomy = answer_ready (left (vars_room h.vars l) (rows_room h.rows h.terms l) p) (right (vars_room h.vars l) (rows_room h.rows h.terms l) p)
+
+      pub answer_read : {k : Slices} → k ≡ (read_into s l).lent → out (FileRead.Model h) k ≡ read_into s l
+      answer_read {k} g = answer_model (left (vars_room h.vars l) (rows_room h.rows h.terms l) p) (right (vars_room h.vars l) (rows_room h.rows h.terms l) p) g
+
 -- ---- filling
-left : (a b : Bool) → a && b ≡ true → a ≡ true
-left true b e = refl
-left false b e = e
-
-right : (a b : Bool) → a && b ≡ true → b ≡ true
-right true b e = e
-right false b e = absurd (true≢false (sym e))
-
 split : (n m : ℕ) (b : Bool) → leb n m && b ≡ true → (n ≤ m) × (b ≡ true)
 split n m b e = (leb-true n m (left (leb n m) b e), right (leb n m) b e)
 
@@ -139,17 +149,6 @@ unfolding ends
 ends_length t [] = refl
 ends_length t (r ∷ rs) = ap suc (ends_length (t + r.head.count) rs)
 
--- the columns of both parts, as slices
-abbrev pub columns : VarColumns → RowColumns → Slices
-columns c d = slices c.objective c.lower c.upper c.domain d.starts d.terms.index d.terms.coeff d.cmp d.rhs
-
-vars_of_lem : Slices → VarColumns
-vars_of_lem l = var_columns l.objective l.lower l.upper l.domain
-
--- row starts begin with 0
-rows_of : Slices → RowColumns
-rows_of l = row_columns (set l.starts 0 0) l.index l.coeff l.cmp l.rhs
-
 -- a list of mapped entries at the front
 mapped : {A B : Type 0} (f : A → B) (xs : List A) (l : List B) → length xs ≤ length l → sets l 0 (map f xs) ≡ over (map f xs) l
 mapped f xs l h = over_sets (map f xs) l (rw (length-map xs f) h)
@@ -157,10 +156,10 @@ mapped f xs l h = over_sets (map f xs) l (rw (length-map xs f) h)
 leaves : (h : Settings) (vs : List Variable) (rs : List Row) (l : Slices) → (length vs ≤ length l.objective) × (length vs ≤ length l.lower)
     × (length vs ≤ length l.upper) × (length vs ≤ length l.domain) → (length rs + 1 ≤ length l.starts) × (length (all_terms rs) ≤ length l.index)
     × (length (all_terms rs) ≤ length l.coeff) × (length rs ≤ length l.cmp) × (length rs ≤ length l.rhs)
-    → columns (put_all put_var vs 0 (vars_of_lem l)) (with_rows rs 0 0 (rows_of l)) ≡ filled (lists h vs rs) l
-unfolding filled lists vars_of_lem rows_of
+    → with_rows rs 0 0 (put_start (put_all put_var vs 0 l)) ≡ filled (lists h vs rs) l
+unfolding filled lists
 leaves h vs rs l m n =
-    ap (λ (c : VarColumns). columns c (with_rows rs 0 0 (rows_of l))) (put_vars vs 0 (vars_of_lem l))
+    ap (λ (c : Slices). with_rows rs 0 0 (put_start c)) (put_vars vs 0 l)
     ∙ (λ j. slices
     (mapped (λ (v : Variable). v.objective) vs l.objective m.0 j)
     (mapped (λ (v : Variable). v.lower) vs l.lower m.1 j)
@@ -205,6 +204,9 @@ module _ {s : List ℕ} {l : Slices} (k : Ready s l) {b : List ℕ} {h : Setting
   pub ready_vars : (h.vars ≤ length l.objective) × (h.vars ≤ length l.lower) × (h.vars ≤ length l.upper) × (h.vars ≤ length l.domain)
   ready_vars = rw count_vars at (vars_fit (length k.lists.objective) (length l.objective) (length l.lower) (length l.upper) (length l.domain) (lists_vars k.lists l k.roomy))
 
+  pub var_places : (i : ℕ) → i < h.vars → VarPlace i (sizes l)
+  var_places i k = let w = ready_vars in omega (arith, w)
+
   -- the variables are there
   pub ready_no : {n : ℕ} → skipped (many variable h.vars b) ≡ refused n → ⊥
   ready_no {n} e = let z = had_not (λ _. tt) (many variable h.vars b) n e in let y = inside.is_vars in let x : ◌≡◌ {A = ℕ} 0 1 = cc in omega arith
@@ -230,18 +232,29 @@ module _ {s : List ℕ} {l : Slices} (k : Ready s l) {b : List ℕ} {h : Setting
           within_is h.rows (length l.coeff) r inside.row_list rows_is (omega (arith, w.2, count_terms)),
         )
 
-    pub ready_end : {c : VarColumns} {d : RowColumns} → c ≡ fill variable put_var h.vars b 0 (var_columns l.objective l.lower l.upper l.domain)
-        → d ≡ fill_rows h.rows r 0 0 (row_columns (set l.starts 0 0) l.index l.coeff l.cmp l.rhs) → columns c d ≡ (read_into s l).lent
-    unfolding vars_of_lem rows_of
-    ready_end {c} {d} e f =
-        let o = inside in
-        let u : c ≡ put_all put_var o.vars 0 (vars_of_lem l) = e ∙ fill_all variable put_var h.vars b 0 (vars_of_lem l) o.vars o.rest o.is_vars in
-        let v : d ≡ with_rows o.row_list 0 0 (rows_of l) = f ∙ put_rows h.rows r 0 0 (rows_of l) o.row_list [] rows_is in
-        let m = many_length variable h.vars b o.vars o.rest o.is_vars in
-        let n = rows_are_lem h.rows 0 r o.row_list [] rows_is in
-        let t = after_length 0 o.row_list n.sized in
-        let x = vars_fit (length k.lists.objective) (length l.objective) (length l.lower) (length l.upper) (length l.domain) (lists_vars k.lists l k.roomy) in
-        let y = rows_fit (length k.lists.cmp) (length k.lists.index) (length l.starts) (length l.index) (length l.coeff) (length l.cmp)
-        (length l.rhs) (lists_rows k.lists l k.roomy) in
-        let z = leaves h o.vars o.row_list l (omega (arith, x, m, count_vars)) (omega (arith, y, n.count, t, count_rows, count_terms)) in
-        (λ j. columns (u j) (v j)) ∙ z ∙ ap (λ (g : Lists). filled g l) (sym o.is_lists) ∙ ap (λ (g : Out). g.lent) (answer_full s l k.is k.roomy)
+    -- c are the slices after the variables
+    module _ {c : Slices} (e : c ≡ fill variable put_var h.vars b 0 l) where
+      same_sizes : sizes c ≡ sizes l
+      same_sizes = ap sizes e ∙ sizes_fill variable put_var sizes_var h.vars b 0 l
+
+      pub row_places : (h.rows < length c.starts) × (h.rows ≤ length c.cmp) × (h.rows ≤ length c.rhs)
+      row_places =
+          let w = ready_rows in
+          omega (arith, w, ap (λ (z : Sizes). z.starts) same_sizes, ap (λ (z : Sizes). z.cmp) same_sizes, ap (λ (z : Sizes). z.rhs) same_sizes)
+
+      pub terms_fit : Roomy (map_got (after 0) (rows h.rows 0 r)) (sizes c)
+      terms_fit = subst (Roomy (map_got (after 0) (rows h.rows 0 r))) (sym same_sizes) ready_terms
+
+      pub ready_end : {d : Slices} → d ≡ fill_rows h.rows r 0 0 (put_start c) → d ≡ (read_into s l).lent
+      ready_end {d} f =
+          let o = inside in
+          let u : c ≡ put_all put_var o.vars 0 l = e ∙ fill_all variable put_var h.vars b 0 l o.vars o.rest o.is_vars in
+          let v : d ≡ with_rows o.row_list 0 0 (put_start c) = f ∙ put_rows h.rows r 0 0 (put_start c) o.row_list [] rows_is in
+          let m = many_length variable h.vars b o.vars o.rest o.is_vars in
+          let n = rows_are_lem h.rows 0 r o.row_list [] rows_is in
+          let t = after_length 0 o.row_list n.sized in
+          let x = vars_fit (length k.lists.objective) (length l.objective) (length l.lower) (length l.upper) (length l.domain) (lists_vars k.lists l k.roomy) in
+          let y = rows_fit (length k.lists.cmp) (length k.lists.index) (length l.starts) (length l.index) (length l.coeff) (length l.cmp)
+          (length l.rhs) (lists_rows k.lists l k.roomy) in
+          let z = leaves h o.vars o.row_list l (omega (arith, x, m, count_vars)) (omega (arith, y, n.count, t, count_rows, count_terms)) in
+          v ∙ ap (λ (g : Slices). with_rows o.row_list 0 0 (put_start g)) u ∙ z ∙ ap (λ (g : Lists). filled g l) (sym o.is_lists) ∙ ap (λ (g : Out). g.lent) (answer_full s l k.is k.roomy)

@@ -1,17 +1,18 @@
 -- The pass that writes: each part that is read goes to its place, and what a whole file leaves is its lists at the front of the slices.
 use Prim.Native.Nat.{ℕ, zero, suc, ◌+◌, ◌-◌, ◌≤◌, ◌<◌}
-use Rattle.std.specs.Prelude.{◌≡◌, List, [], ◌∷◌, drop, set, Float}
+use Rattle.std.specs.Prelude.{◌≡◌, List, [], ◌∷◌, length, set, Result}
 use Rattle.std.proofs.Math.Path.{refl}
 use Rattle.std.proofs.Common.{ap, sym, subst, ◌∙◌, add-one}
 use native.Mathlib.Omega.{arith}
+use lib.ListN.{length-set}
 use Rattle.model_file.specs.declared.Variable.{Variable}
 use Rattle.model_file.specs.declared.Term.{Term}
 use Rattle.model_file.specs.declared.RowHead.{RowHead}
-use Rattle.model_file.specs.declared.NumberRead.{NumberRead}
-use Rattle.model_file.specs.declared.Next.{Next}
+use Rattle.model_file.specs.declared.FileRefusal.{FileRefusal}
 use Rattle.model_file.specs.Format.{Got, refused, got, Parser, and_then, many, term, head, row, Row, rows}
-use Rattle.model_file.specs.Skips.{map_got, skipped, next_got, after, upto, RowIs, skip_turn, skip_bad, skip_end, rows_turn, rows_cons, rows_refused, had, had_not, map_value}
-use Rattle.model_file.specs.Places.{then_got}
+use Rattle.model_file.specs.Reading.{Slices}
+use Rattle.model_file.specs.Skips.{map_got, skipped, after, upto, skip_next, skip_bad, skip_end, rows_next, rows_cons, rows_refused, had, map_value}
+use Rattle.model_file.specs.Places.{answered, then_got}
 
 -- ---- what is written of a part that is read, and of one that is refused
 unfoldable pub case_got : {A C : Type 0} → Got A → C → (A → List ℕ → C) → C
@@ -37,47 +38,83 @@ module _ {A C : Type 0} (p : Parser A) (put : ℕ → A → C → C) where
   unfolding fill
   fill_end n i s c h = let z : n - i ≡ 0 = omega arith in rw z
 
--- ---- the variables' columns
-pub record VarColumns : Type 0 where
-  pub objective : List Float
-  pub lower : List Float
-  pub upper : List Float
-  pub domain : List ℕ
+-- ---- where the parts go
+-- a variable to place v, a term to place t
+abbrev pub put_var : ℕ → Variable → Slices → Slices
+put_var v x l = record l { objective = set l.objective v x.objective; lower = set l.lower v x.lower; upper = set l.upper v x.upper; domain = set l.domain v x.domain }
 
-abbrev pub var_columns : List Float → List Float → List Float → List ℕ → VarColumns
-var_columns o l u d = record { objective = o; lower = l; upper = u; domain = d }
+abbrev pub put_term : ℕ → Term → Slices → Slices
+put_term t x l = record l { index = set l.index t x.index; coeff = set l.coeff t x.coeff }
 
-abbrev pub put_var : ℕ → Variable → VarColumns → VarColumns
-put_var v x c = var_columns (set c.objective v x.objective) (set c.lower v x.lower) (set c.upper v x.upper) (set c.domain v x.domain)
+-- a row's head to place r, its terms ending at e
+abbrev pub put_head : ℕ → ℕ → RowHead → Slices → Slices
+put_head r e h l = record l { starts = set l.starts (r + 1) e; cmp = set l.cmp r h.cmp; rhs = set l.rhs r h.rhs }
 
--- ---- the terms' and the rows' columns
-pub record TermColumns : Type 0 where
-  pub index : List ℕ
-  pub coeff : List Float
+-- the first row begins at 0
+abbrev pub put_start : Slices → Slices
+put_start l = record l { starts = set l.starts 0 0 }
 
-abbrev pub term_columns : List ℕ → List Float → TermColumns
-term_columns i a = record { index = i; coeff = a }
+-- ---- how long the slices are, which no part changes
+pub record Sizes : Type 0 where
+  pub objective : ℕ
+  pub lower : ℕ
+  pub upper : ℕ
+  pub domain : ℕ
+  pub starts : ℕ
+  pub index : ℕ
+  pub coeff : ℕ
+  pub cmp : ℕ
+  pub rhs : ℕ
 
-abbrev pub put_term : ℕ → Term → TermColumns → TermColumns
-put_term t x c = term_columns (set c.index t x.index) (set c.coeff t x.coeff)
+abbrev pub sizes : Slices → Sizes
+sizes l =
+    record {
+      objective = length l.objective;
+      lower = length l.lower;
+      upper = length l.upper;
+      domain = length l.domain;
+      starts = length l.starts;
+      index = length l.index;
+      coeff = length l.coeff;
+      cmp = length l.cmp;
+      rhs = length l.rhs;
+    }
 
-pub record RowColumns : Type 0 where
-  pub starts : List ℕ
-  pub terms : TermColumns
-  pub cmp : List ℕ
-  pub rhs : List Float
+pub sizes_var : (v : ℕ) (x : Variable) (l : Slices) → sizes (put_var v x l) ≡ sizes l
+sizes_var v x l = rw (length-set l.objective v x.objective, length-set l.lower v x.lower, length-set l.upper v x.upper, length-set l.domain v x.domain) refl
 
-abbrev pub row_columns : List ℕ → List ℕ → List Float → List ℕ → List Float → RowColumns
-row_columns p i a q b = record { starts = p; terms = term_columns i a; cmp = q; rhs = b }
+pub sizes_term : (t : ℕ) (x : Term) (l : Slices) → sizes (put_term t x l) ≡ sizes l
+sizes_term t x l = rw (length-set l.index t x.index, length-set l.coeff t x.coeff) refl
+
+pub sizes_head : (r e : ℕ) (h : RowHead) (l : Slices) → sizes (put_head r e h l) ≡ sizes l
+sizes_head r e h l = rw (length-set l.starts (r + 1) e, length-set l.cmp r h.cmp, length-set l.rhs r h.rhs) refl
+
+pub sizes_start : (l : Slices) → sizes (put_start l) ≡ sizes l
+sizes_start l = rw (length-set l.starts 0 0) refl
+
+pub sizes_fill : {A : Type 0} (p : Parser A) (put : ℕ → A → Slices → Slices) → ((i : ℕ) (x : A) (l : Slices) → sizes (put i x l) ≡ sizes l) → (n : ℕ) (s : List ℕ) (i : ℕ) (l : Slices)
+    → sizes (fill p put n s i l) ≡ sizes l
+unfolding fill case_got
+sizes_fill p put keeps zero s i l = refl
+sizes_fill p put keeps (suc n) s i l =
+    elim (p s) as (λ g. sizes (case_got g l (λ x r. fill p put n r (suc i) (put i x l))) ≡ sizes l)
+    [ refused m ↦ refl | got x r ↦ sizes_fill p put keeps n r (suc i) (put i x l) ∙ keeps i x l ]
+
+-- these places are there
+abbrev pub VarPlace : ℕ → Sizes → Type 0
+VarPlace v z = (v < z.objective) × (v < z.lower) × (v < z.upper) × (v < z.domain)
+
+abbrev pub TermPlace : ℕ → Sizes → Type 0
+TermPlace t z = (t < z.index) × (t < z.coeff)
+
+abbrev pub RowPlace : ℕ → Sizes → Type 0
+RowPlace r z = (r + 1 < z.starts) × (r < z.cmp) × (r < z.rhs)
 
 -- row r, with t terms before it
-abbrev pub put_row : ℕ → ℕ → RowHead → TermColumns → RowColumns → RowColumns
-put_row r t h k c = record { starts = set c.starts (r + 1) (t + h.count); terms = k; cmp = set c.cmp r h.cmp; rhs = set c.rhs r h.rhs }
+unfoldable pub fill_row : ℕ → ℕ → List ℕ → Slices → Slices
+fill_row r t s c = case_got (head t s) c (λ h a. fill term put_term h.count a t (put_head r (t + h.count) h c))
 
-unfoldable pub fill_row : ℕ → ℕ → List ℕ → RowColumns → RowColumns
-fill_row r t s c = case_got (head t s) c (λ h a. put_row r t h (fill term put_term h.count a t c.terms) c)
-
-unfoldable pub fill_rows : ℕ → List ℕ → ℕ → ℕ → RowColumns → RowColumns
+unfoldable pub fill_rows : ℕ → List ℕ → ℕ → ℕ → Slices → Slices
 fill_rows zero s r t c = c
 fill_rows (suc n) s r t c = case_got (row t s) (fill_row r t s c) (λ x a. fill_rows n a (suc r) (t + x.head.count) (fill_row r t s c))
 
@@ -86,14 +123,14 @@ abbrev pub Within : Got ℕ → ℕ → Type 0
 Within (refused m) n = ⊥
 Within (got e r) n = e ≤ n
 
--- ---- what the loops promise: the place after, as the pass that checks gives it, and the columns
-pub record Filled {A C : Type 0} (p : Parser A) (put : ℕ → A → C → C) (n : ℕ) (s : List ℕ) (from i : ℕ) (r : Next) (c k : C) : Type 0 where
-  pub place : skipped (many p n (drop from s)) ≡ next_got s r
-  pub columns : k ≡ fill p put n (drop from s) i c
+-- the terms of these rows end within the slices
+abbrev pub Roomy : Got ℕ → Sizes → Type 0
+Roomy g z = Within g z.index × Within g z.coeff
 
-pub record RowFilled (s : List ℕ) (at r t : ℕ) (z : NumberRead) (c k : RowColumns) : Type 0 where
-  pub place : RowIs t s z (row t (drop at s))
-  pub columns : k ≡ fill_row r t (drop at s) c
+-- ---- what the loops promise: the place after, as the pass that checks gives it, and the slices
+pub record Filled {A C : Type 0} (p : Parser A) (put : ℕ → A → C → C) (n : ℕ) (s : List ℕ) (i : ℕ) (z : Result (Unit {0}) FileRefusal) (r : List ℕ) (c k : C) : Type 0 where
+  pub place : skipped (many p n s) ≡ answered z r
+  pub columns : k ≡ fill p put n s i c
 
 -- a loop that fills the places from i₀ up to n: at i, what is left of the bytes s₀ is s, and the columns are c
 pub record Filling {A C : Type 0} (p : Parser A) (put : ℕ → A → C → C) (n i₀ : ℕ) (s₀ : List ℕ) (c₀ : C) (i : ℕ) (s : List ℕ) (c : C) : Type 0 where
@@ -106,9 +143,8 @@ filling_start p put n i s c = record { place = refl; columns = refl }
 module _ {A C : Type 0} {p : Parser A} {put : ℕ → A → C → C} {n i₀ : ℕ} {s₀ : List ℕ} {c₀ : C} {i : ℕ} {s : List ℕ} {c : C} (v : Filling p put n i₀ s₀ c₀ i s c) where
   pub filling_turn : {x : A} {r : List ℕ} {k : C} → i < n → p s ≡ got x r → k ≡ put i x c → Filling p put n i₀ s₀ c₀ (i + 1) r k
   filling_turn {x} {r} {k} h e f =
-      let z : n - i - 1 ≡ n - (i + 1) = omega arith in
       record {
-        place = v.place ∙ skip_turn p (n - i) (omega arith) e ∙ ap (λ (m : ℕ). skipped (many p m r)) z;
+        place = v.place ∙ skip_next p n i h e;
         columns = ap (fill p put (n - (i + 1)) r (i + 1)) f ∙ sym (fill_turn p put n i c h e) ∙ v.columns;
       }
 
@@ -148,49 +184,64 @@ module _ (t : ℕ) (s : List ℕ) where
   rows_room_lem zero h e w = absurd (omega arith)
   rows_room_lem (suc k) {m} {n} h e w = rw e (row_within t n k s (row t s) refl w)
 
-  pub row_unread : {m : ℕ} (r : ℕ) (c : RowColumns) → head t s ≡ refused m → c ≡ fill_row r t s c
+  pub row_unread : {m : ℕ} (r : ℕ) (c : Slices) → head t s ≡ refused m → c ≡ fill_row r t s c
   unfolding fill_row case_got
   row_unread r c e = rw e
 
-  pub row_read : (r : ℕ) {h : RowHead} {a : List ℕ} {k : TermColumns} (c : RowColumns) → head t s ≡ got h a → k ≡ fill term put_term h.count a t c.terms → put_row r t h k c ≡ fill_row r t s c
+  pub row_read : (r : ℕ) {h : RowHead} {a : List ℕ} {k : Slices} (c : Slices) → head t s ≡ got h a → k ≡ fill term put_term h.count a t (put_head r (t + h.count) h c) → k ≡ fill_row r t s c
   unfolding fill_row case_got
   row_read r c e f = rw (e, f)
 
+  pub sizes_row : (r : ℕ) (c : Slices) → sizes (fill_row r t s c) ≡ sizes c
+  unfolding fill_row case_got
+  sizes_row r c =
+      elim (head t s) as (λ g. sizes (case_got g c (λ h a. fill term put_term h.count a t (put_head r (t + h.count) h c))) ≡ sizes c)
+      [ refused m ↦ refl | got h a ↦ sizes_fill term put_term sizes_term h.count a t (put_head r (t + h.count) h c) ∙ sizes_head r (t + h.count) h c ]
+
 -- the terms of a row: those from t up to t + n
-pub counted : (t n : ℕ) {s : List ℕ} {a : ℕ} {r : Next} {c k : TermColumns} → Filled term put_term (t + n - t) s a t r c k → Filled term put_term n s a t r c k
+pub counted : (t n : ℕ) {s r : List ℕ} {z : Result (Unit {0}) FileRefusal} {c k : Slices} → Filled term put_term (t + n - t) s t z r c k → Filled term put_term n s t z r c k
 counted t n v = let z : t + n - t ≡ n = omega arith in rw z at v
 
+-- all of them
+pub from_zero : {A C : Type 0} (p : Parser A) (put : ℕ → A → C → C) (n : ℕ) {s r : List ℕ} {i : ℕ} {z : Result (Unit {0}) FileRefusal} {c k : C} → Filled p put (n - 0) s i z r c k → Filled p put n s i z r c k
+from_zero p put n v = let z : n - 0 ≡ n = omega arith in rw z at v
+
 -- ---- the rows
--- a loop that fills n rows: at row r, with t terms so far, the bytes s are left, and the columns are c. There is room for i indices and j coefficients
-pub record RowsFilling (n : ℕ) (s₀ : List ℕ) (c₀ : RowColumns) (i j r t : ℕ) (s : List ℕ) (c : RowColumns) : Type 0 where
+-- a loop that fills n rows: at row r, with t terms so far, the bytes s are left, and the slices are c. There is room for the terms that are left
+pub record RowsFilling (n : ℕ) (s₀ : List ℕ) (c₀ : Slices) (r t : ℕ) (s : List ℕ) (c : Slices) : Type 0 where
   pub small : t ≤ 512
-  pub indices : Within (map_got (after t) (rows (n - r) t s)) i
-  pub coeffs : Within (map_got (after t) (rows (n - r) t s)) j
+  pub same : sizes c ≡ sizes c₀
+  pub room : Roomy (map_got (after t) (rows (n - r) t s)) (sizes c₀)
   pub columns : fill_rows (n - r) s r t c ≡ fill_rows n s₀ 0 0 c₀
 
-pub rows_filling : (n i j : ℕ) (s : List ℕ) (c : RowColumns) → Within (map_got (after 0) (rows n 0 s)) i → Within (map_got (after 0) (rows n 0 s)) j → RowsFilling n s c i j 0 0 s c
-rows_filling n i j s c u v = let z : n - 0 ≡ n = omega arith in record { small = omega arith; indices = rw z u; coeffs = rw z v; columns = rw z }
+pub rows_filling : (n : ℕ) (s : List ℕ) (c : Slices) → Roomy (map_got (after 0) (rows n 0 s)) (sizes c) → RowsFilling n s c 0 0 s c
+rows_filling n s c u = let z : n - 0 ≡ n = omega arith in record { small = omega arith; same = refl; room = rw z u; columns = rw z }
 
-pub fill_rows_cons : (n : ℕ) (s : List ℕ) (r t : ℕ) (c : RowColumns) {x : Row} {a : List ℕ} → row t s ≡ got x a → fill_rows (suc n) s r t c ≡ fill_rows n a (suc r) (t + x.head.count) (fill_row r t s c)
+pub fill_rows_cons : (n : ℕ) (s : List ℕ) (r t : ℕ) (c : Slices) {x : Row} {a : List ℕ} → row t s ≡ got x a → fill_rows (suc n) s r t c ≡ fill_rows n a (suc r) (t + x.head.count) (fill_row r t s c)
 unfolding fill_rows case_got
 fill_rows_cons n s r t c e = rw e
 
-fill_rows_stop : (n : ℕ) (s : List ℕ) (r t : ℕ) (c : RowColumns) {m : ℕ} → row t s ≡ refused m → fill_rows (suc n) s r t c ≡ fill_row r t s c
+fill_rows_stop : (n : ℕ) (s : List ℕ) (r t : ℕ) (c : Slices) {m : ℕ} → row t s ≡ refused m → fill_rows (suc n) s r t c ≡ fill_row r t s c
 unfolding fill_rows case_got
 fill_rows_stop n s r t c e = rw e
 
-module _ {n : ℕ} {s₀ : List ℕ} {c₀ : RowColumns} {i j r t : ℕ} {s : List ℕ} {c : RowColumns} (v : RowsFilling n s₀ c₀ i j r t s c) where
-  pub rows_filling_turn : {e : ℕ} {a : List ℕ} {k : RowColumns} → r < n → e ≤ 512 → map_got (upto t) (row t s) ≡ got e a → k ≡ fill_row r t s c → RowsFilling n s₀ c₀ i j (r + 1) e a k
+module _ {n : ℕ} {s₀ : List ℕ} {c₀ : Slices} {r t : ℕ} {s : List ℕ} {c : Slices} (v : RowsFilling n s₀ c₀ r t s c) where
+  -- the place and the terms of the next row are there
+  pub rows_filling_room : r < n → Roomy (map_got (upto t) (row t s)) (sizes c)
+  rows_filling_room h =
+      subst (Roomy (map_got (upto t) (row t s))) (sym v.same)
+      (rows_room_lem t s (n - r) (omega arith) refl v.room.0, rows_room_lem t s (n - r) (omega arith) refl v.room.1)
+
+  pub rows_filling_turn : {e : ℕ} {a : List ℕ} {k : Slices} → r < n → e ≤ 512 → map_got (upto t) (row t s) ≡ got e a → k ≡ fill_row r t s c → RowsFilling n s₀ c₀ (r + 1) e a k
   rows_filling_turn {e} {a} {k} h small q f =
       let x = had (upto t) (row t s) e a q in
       let y : t + x.value.head.count ≡ e = map_value (upto t) x.is q in
       let z : n - r ≡ suc (n - (r + 1)) = omega arith in
-      let p : n - r - 1 ≡ n - (r + 1) = omega arith in
-      let w : map_got (after t) (rows (n - r) t s) ≡ map_got (after e) (rows (n - (r + 1)) e a) = rows_turn t s (n - r) (omega arith) q ∙ ap (λ (m : ℕ). map_got (after e) (rows m e a)) p in
+      let w : map_got (after t) (rows (n - r) t s) ≡ map_got (after e) (rows (n - (r + 1)) e a) = rows_next t s n r h q in
       record {
         small = small;
-        indices = rw w at v.indices;
-        coeffs = rw w at v.coeffs;
+        same = ap sizes f ∙ sizes_row t s r c ∙ v.same;
+        room = rw w at v.room;
         columns =
             ap (fill_rows (n - (r + 1)) a (r + 1) e) f
             ∙ ap (λ (m : ℕ). fill_rows (n - (r + 1)) a m e (fill_row r t s c)) (add-one r)
@@ -200,10 +251,9 @@ module _ {n : ℕ} {s₀ : List ℕ} {c₀ : RowColumns} {i j r t : ℕ} {s : Li
             ∙ v.columns;
       }
 
-  pub rows_filling_bad : {m : ℕ} {k : RowColumns} → r < n → map_got (upto t) (row t s) ≡ refused m → k ≡ fill_row r t s c → k ≡ fill_rows n s₀ 0 0 c₀
-  rows_filling_bad {m} h q f =
-      let z : n - r ≡ suc (n - (r + 1)) = omega arith in
-      f ∙ sym (fill_rows_stop (n - (r + 1)) s r t c (had_not (upto t) (row t s) m q)) ∙ ap (λ (m : ℕ). fill_rows m s r t c) (sym z) ∙ v.columns
+  -- no row that is left is refused
+  pub rows_filling_bad : {m : ℕ} → r < n → map_got (upto t) (row t s) ≡ refused m → ⊥
+  rows_filling_bad {m} h q = let w : Within (refused m) (sizes c).index = rw q at ((rows_filling_room h).0) in w
 
   pub rows_filling_end : n ≤ r → c ≡ fill_rows n s₀ 0 0 c₀
   unfolding fill_rows

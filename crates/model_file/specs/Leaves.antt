@@ -8,9 +8,9 @@ use Rattle.model_file.specs.declared.Term.{Term}
 use Rattle.model_file.specs.declared.Settings.{Settings}
 use Rattle.model_file.specs.Format.{Got, refused, got, Parser, many, settings, variable, term, head, row, Row, rows, ends, all_terms, Lists, lists, end, whole, file, decoded, decode}
 use Rattle.model_file.specs.Places.{then_got}
-use Rattle.model_file.specs.Reading.{over}
+use Rattle.model_file.specs.Reading.{Slices, over}
 use Rattle.model_file.specs.Skips.{taken, row_sized}
-use Rattle.model_file.specs.Fills.{case_got, fill, VarColumns, var_columns, put_var, TermColumns, term_columns, put_term, RowColumns, put_row, fill_row, fill_rows, fill_rows_cons, row_read}
+use Rattle.model_file.specs.Fills.{case_got, fill, put_var, put_term, put_head, fill_row, fill_rows, fill_rows_cons, row_read}
 
 -- ---- parts that were read, each to its place
 unfoldable pub put_all : {A C : Type 0} → (ℕ → A → C → C) → List A → ℕ → C → C
@@ -31,75 +31,82 @@ fill_all p put (suc n) s i c xs r e =
     let z : xs ≡ a.value ∷ b.value = cc in
     fill_cons p put n s i c a.is ∙ fill_all p put n a.rest (suc i) (put i a.value c) b.value b.rest b.is ∙ ap (λ (l : List _). put_all put l i c) (sym z)
 
-pub put_vars : (vs : List Variable) (i : ℕ) (c : VarColumns) → put_all put_var vs i c
-    ≡ var_columns (sets c.objective i (map (λ (v : Variable). v.objective) vs)) (sets c.lower i (map (λ (v : Variable). v.lower) vs))
-    (sets c.upper i (map (λ (v : Variable). v.upper) vs)) (sets c.domain i (map (λ (v : Variable). v.domain) vs))
+pub put_vars : (vs : List Variable) (i : ℕ) (c : Slices) → put_all put_var vs i c
+    ≡ record c {
+      objective = sets c.objective i (map (λ (v : Variable). v.objective) vs);
+      lower = sets c.lower i (map (λ (v : Variable). v.lower) vs);
+      upper = sets c.upper i (map (λ (v : Variable). v.upper) vs);
+      domain = sets c.domain i (map (λ (v : Variable). v.domain) vs);
+    }
 unfolding put_all
 put_vars [] i c = refl
 put_vars (v ∷ vs) i c = put_vars vs (suc i) (put_var i v c)
 
-pub put_terms : (ts : List Term) (i : ℕ) (c : TermColumns) → put_all put_term ts i c ≡ term_columns (sets c.index i (map (λ (x : Term). x.index) ts))
-    (sets c.coeff i (map (λ (x : Term). x.coeff) ts))
+-- the terms ts from place t on
+abbrev pub with_terms : List Term → ℕ → Slices → Slices
+with_terms ts t c = record c { index = sets c.index t (map (λ (x : Term). x.index) ts); coeff = sets c.coeff t (map (λ (x : Term). x.coeff) ts) }
+
+pub put_terms : (ts : List Term) (t : ℕ) (c : Slices) → put_all put_term ts t c ≡ with_terms ts t c
 unfolding put_all
-put_terms [] i c = refl
-put_terms (x ∷ ts) i c = put_terms ts (suc i) (put_term i x c)
+put_terms [] t c = refl
+put_terms (x ∷ ts) t c = put_terms ts (suc t) (put_term t x c)
 
 -- ---- rows
--- the terms ts from place t on
-abbrev pub with_terms : List Term → ℕ → TermColumns → TermColumns
-with_terms ts t c = term_columns (sets c.index t (map (λ (x : Term). x.index) ts)) (sets c.coeff t (map (λ (x : Term). x.coeff) ts))
-
-abbrev pub with_rows : List Row → ℕ → ℕ → RowColumns → RowColumns
+abbrev pub with_rows : List Row → ℕ → ℕ → Slices → Slices
 with_rows rs r t c =
-    record {
+    record c {
       starts = sets c.starts (suc r) (ends t rs);
-      terms = with_terms (all_terms rs) t c.terms;
+      index = sets c.index t (map (λ (x : Term). x.index) (all_terms rs));
+      coeff = sets c.coeff t (map (λ (x : Term). x.coeff) (all_terms rs));
       cmp = sets c.cmp r (map (λ (x : Row). x.head.cmp) rs);
       rhs = sets c.rhs r (map (λ (x : Row). x.head.rhs) rs);
     }
 
-put_row_lem : (r t : ℕ) (s : List ℕ) (c : RowColumns) (x : Row) (a : List ℕ) → row t s ≡ got x a → fill_row r t s c ≡ put_row r t x.head (with_terms x.terms t c.terms) c
+-- row r, with t terms before it
+abbrev with_row : Row → ℕ → ℕ → Slices → Slices
+with_row x r t c = with_terms x.terms t (put_head r (t + x.head.count) x.head c)
+
+put_row_lem : (r t : ℕ) (s : List ℕ) (c : Slices) (x : Row) (a : List ℕ) → row t s ≡ got x a → fill_row r t s c ≡ with_row x r t c
 unfolding row
 put_row_lem r t s c x a e =
     let h = taken (head t s) _ x a e in
     let ts = taken (many term h.value.count h.rest) _ x a h.more in
     let z : x ≡ record { head = h.value; terms = ts.value } = cc in
-    let k = fill_all term put_term h.value.count h.rest t c.terms ts.value ts.rest ts.is ∙ put_terms ts.value t c.terms in
-    sym (row_read t s r c h.is (sym k)) ∙ ap (λ (y : Row). put_row r t y.head (with_terms y.terms t c.terms) c) (sym z)
+    let d = put_head r (t + h.value.count) h.value c in
+    let k = fill_all term put_term h.value.count h.rest t d ts.value ts.rest ts.is ∙ put_terms ts.value t d in
+    sym (row_read t s r c h.is (sym k)) ∙ ap (λ (y : Row). with_row y r t c) (sym z)
 
 pub sets_append : {A : Type 0} (xs ys l : List A) (i : ℕ) → sets (sets l i xs) (i + length xs) ys ≡ sets l i (xs ++ ys)
 sets_append [] ys l i = rw add-zero
 sets_append (x ∷ xs) ys l i = let z : i + suc (length xs) ≡ suc i + length xs = omega arith in rw z (sets_append xs ys (set l i x) (suc i))
 
-terms_append : (ts us : List Term) (t n : ℕ) (c : TermColumns) → length ts ≡ n → with_terms us (t + n) (with_terms ts t c) ≡ with_terms (ts ++ us) t c
+terms_append : (ts us : List Term) (t n : ℕ) (c : Slices) → length ts ≡ n → with_terms us (t + n) (with_terms ts t c) ≡ with_terms (ts ++ us) t c
 terms_append ts us t n c e =
     let i : length (map (λ (x : Term). x.index) ts) ≡ n = length-map ts (λ (x : Term). x.index) ∙ e in
     let a : length (map (λ (x : Term). x.coeff) ts) ≡ n = length-map ts (λ (x : Term). x.coeff) ∙ e in
     let u = sets_append (map (λ (x : Term). x.index) ts) (map (λ (x : Term). x.index) us) c.index t ∙ ap (sets c.index t) (sym (map-append (λ (x : Term). x.index) ts us)) in
     let v = sets_append (map (λ (x : Term). x.coeff) ts) (map (λ (x : Term). x.coeff) us) c.coeff t ∙ ap (sets c.coeff t) (sym (map-append (λ (x : Term). x.coeff) ts us)) in
-    λ j. term_columns ((rw i at u) j) ((rw a at v) j)
+    λ j. record c { index = (rw i at u) j; coeff = (rw a at v) j }
 
-with_cons : (x : Row) (rs : List Row) (r t : ℕ) (c : RowColumns) → length x.terms ≡ x.head.count
-    → with_rows rs (suc r) (t + x.head.count) (put_row r t x.head (with_terms x.terms t c.terms) c) ≡ with_rows (x ∷ rs) r t c
+with_cons : (x : Row) (rs : List Row) (r t : ℕ) (c : Slices) → length x.terms ≡ x.head.count → with_rows rs (suc r) (t + x.head.count) (with_row x r t c) ≡ with_rows (x ∷ rs) r t c
 unfolding ends all_terms
 with_cons x rs r t c e =
-    let k = terms_append x.terms (all_terms rs) t x.head.count c.terms e in
+    let k = terms_append x.terms (all_terms rs) t x.head.count c e in
     let z : set c.starts (r + 1) (t + x.head.count) ≡ set c.starts (suc r) (t + x.head.count) = rw add-one in
-    λ j. record {
+    λ j. record (k j) {
       starts = sets (z j) (suc (suc r)) (ends (t + x.head.count) rs);
-      terms = k j;
       cmp = sets (set c.cmp r x.head.cmp) (suc r) (map (λ (x : Row). x.head.cmp) rs);
       rhs = sets (set c.rhs r x.head.rhs) (suc r) (map (λ (x : Row). x.head.rhs) rs);
     }
 
-pub put_rows : (n : ℕ) (s : List ℕ) (r t : ℕ) (c : RowColumns) (rs : List Row) (a : List ℕ) → rows n t s ≡ got rs a → fill_rows n s r t c ≡ with_rows rs r t c
+pub put_rows : (n : ℕ) (s : List ℕ) (r t : ℕ) (c : Slices) (rs : List Row) (a : List ℕ) → rows n t s ≡ got rs a → fill_rows n s r t c ≡ with_rows rs r t c
 unfolding rows fill_rows ends all_terms
 put_rows zero s r t c rs a e = let z : rs ≡ [] = cc in rw z
 put_rows (suc n) s r t c rs a e =
     let x = taken (row t s) _ rs a e in
     let xs = taken (rows n (t + x.value.head.count) x.rest) _ rs a x.more in
     let z : rs ≡ x.value ∷ xs.value = cc in
-    let k = put_row r t x.value.head (with_terms x.value.terms t c.terms) c in
+    let k = with_row x.value r t c in
     let p : fill_row r t s c ≡ k = put_row_lem r t s c x.value x.rest x.is in
     fill_rows_cons n s r t c x.is
     ∙ ap (fill_rows n x.rest (suc r) (t + x.value.head.count)) p

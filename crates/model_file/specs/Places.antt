@@ -1,56 +1,19 @@
--- Reading at a place of the file: each answer of the code as the definition's, at the bytes from that place on.
-use Rattle.std.specs.Prelude.{ℕ, zero, suc, ◌+◌, ◌-◌, ◌*◌, ◌/◌, ◌%◌, ◌^◌, ◌≤◌, ◌<◌, ◌≡◌, refl, List, Bool, true, false, length, get_or, drop, Float}
+-- The code's answers as the definition's: what was read, with the bytes that are left then, or the refusal's number. And how the definition reads at a place of the file.
+use Rattle.std.specs.Prelude.{ℕ, zero, suc, ◌+◌, ◌-◌, ◌*◌, ◌/◌, ◌%◌, ◌^◌, ◌≤◌, ◌<◌, ◌≡◌, refl, List, Bool, true, false, length, get_or, drop, Float, Result, Ok, Err}
 use Rattle.std.proofs.Common.{◌∙◌, add-one, lt-ltb, le-ltb, add-zero, arith, drop_of_length-le, drop-cons}
 use Rattle.std.proofs.Math.Numerals.{add-two, add-four}
 use Rattle.std.proofs.Math.Decide.{dec_lt}
 use Rattle.std.proofs.lemmas.Bool.{false≢true}
 use Rattle.std.specs.Float.{nan, inf, fin, binary64}
 use Rattle.std.specs.Float.Ieee.{is_nan, of_bits}
-use Rattle.model_file.specs.declared.Variable.{Variable}
-use Rattle.model_file.specs.declared.Term.{Term}
-use Rattle.model_file.specs.declared.RowHead.{RowHead}
-use Rattle.model_file.specs.declared.Settings.{Settings}
-use Rattle.model_file.specs.declared.NumberRead.{NumberRead}
-use Rattle.model_file.specs.declared.FloatRead.{FloatRead}
-use Rattle.model_file.specs.declared.VariableRead.{VariableRead}
-use Rattle.model_file.specs.declared.HeadRead.{HeadRead}
-use Rattle.model_file.specs.declared.TermRead.{TermRead}
-use Rattle.model_file.specs.declared.SettingsRead.{SettingsRead}
 use Rattle.model_file.specs.Format.{Got, refused, got, Parser, and_then, byte, number, refuse, float, optional, count, code, values, variable, side, head}
+use Rattle.model_file.specs.declared.FileRefusal.{FileRefusal}
+use Rattle.model_file.specs.Reading.{number_of}
 
 -- ---- the answers
-abbrev pub number_got : List ℕ → NumberRead → Got ℕ
-number_got s (NumberRead.Refused n) = refused n
-number_got s (NumberRead.Got x a) = got x (drop a s)
-
-abbrev pub float_got : List ℕ → FloatRead → Got Float
-float_got s (FloatRead.Refused n) = refused n
-float_got s (FloatRead.Got x a) = got x (drop a s)
-
-abbrev pub variable_got : List ℕ → VariableRead → Got Variable
-variable_got s (VariableRead.Refused n) = refused n
-variable_got s (VariableRead.Got x a) = got x (drop a s)
-
-abbrev pub head_got : List ℕ → HeadRead → Got RowHead
-head_got s (HeadRead.Refused n) = refused n
-head_got s (HeadRead.Got x a) = got x (drop a s)
-
--- the terms up to here stay within the limit
-abbrev pub HeadWithin : ℕ → HeadRead → Type 0
-HeadWithin t (HeadRead.Refused n) = Unit {0}
-HeadWithin t (HeadRead.Got h a) = t + h.count ≤ 512
-
-pub record HeadIs (t : ℕ) (s : List ℕ) (r : HeadRead) (g : Got RowHead) : Type 0 where
-  pub is : g ≡ head_got s r
-  pub within : HeadWithin t r
-
-abbrev pub term_got : List ℕ → TermRead → Got Term
-term_got s (TermRead.Refused n) = refused n
-term_got s (TermRead.Got x a) = got x (drop a s)
-
-abbrev pub settings_got : List ℕ → SettingsRead → Got Settings
-settings_got s (SettingsRead.Refused n) = refused n
-settings_got s (SettingsRead.Got x a) = got x (drop a s)
+abbrev pub answered : {A : Type 0} → Result A FileRefusal → List ℕ → Got A
+answered (Ok x) s = got x s
+answered (Err e) s = refused (number_of e)
 
 -- ---- one after the other
 pub then_got : {A B : Type 0} {g : Got A} {a : A} {s : List ℕ} (f : A → Parser B) → g ≡ got a s → and_then g f ≡ f a s

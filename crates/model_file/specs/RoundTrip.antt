@@ -1,12 +1,10 @@
 -- What is encoded is read back.
-use Rattle.std.specs.Prelude.{ℕ, ◌+◌, ◌-◌, ◌≤◌, ◌≡◌, List, [], ◌∷◌, map, length, Float}
-use Rattle.std.proofs.Common.{ap}
+use Rattle.std.specs.Prelude.{ℕ, ◌+◌, ◌≤◌, ◌≡◌, List, [], ◌∷◌, map, length, Float}
 use Rattle.model_file.specs.declared.Variable.{Variable}
 use Rattle.model_file.specs.declared.Term.{Term}
 use Rattle.model_file.specs.declared.Settings.{Settings}
-use Rattle.model_file.specs.Format.{count, code, settings, variable, head}
-use Rattle.model_file.specs.Format.{term, row, Row, rows, ends, all_terms, lists, end, file}
-use Rattle.model_file.specs.Encode.{encode, Every, Held, Code, Short}
+use Rattle.model_file.specs.Format.{Row, ends, all_terms}
+use Rattle.model_file.specs.Encode.{Every, Held, Code, Short}
 
 -- ---- variables
 pub record VariableOk (v : Variable) : Type 0 where

@@ -9,13 +9,10 @@ use Rattle.model_file.specs.declared.Variable.{Variable}
 use Rattle.model_file.specs.declared.Term.{Term}
 use Rattle.model_file.specs.declared.RowHead.{RowHead}
 use Rattle.model_file.specs.declared.Settings.{Settings}
-use Rattle.model_file.specs.declared.NumberRead.{NumberRead}
-use Rattle.model_file.specs.declared.Next.{Next}
-use Rattle.model_file.specs.declared.FileRead.{FileRead}
 use Rattle.model_file.specs.Format.{Got, refused, got, Parser, and_then, many, settings, variable, term, head, row, Row, rows}
 use Rattle.model_file.specs.Format.{all_terms, Lists, lists, end, whole, Decoded, refusal, file, decoded, decode}
-use Rattle.model_file.specs.Places.{number_got, then_got, then_refused}
-use Rattle.model_file.specs.Reading.{header_of}
+use Rattle.model_file.specs.Places.{then_got, then_refused}
+use Rattle.model_file.specs.Reading.{FileRead, header_of}
 
 -- ---- a part that was passed
 unfoldable pub map_got : {A B : Type 0} → (A → B) → Got A → Got B
@@ -25,10 +22,6 @@ map_got f (got a s) = got (f a) s
 abbrev pub skipped : {A : Type 0} → Got A → Got (Unit {0})
 skipped g = map_got (λ _. tt) g
 
-abbrev pub next_got : List ℕ → Next → Got (Unit {0})
-next_got s (Next.Refused n) = refused n
-next_got s (Next.At a) = got tt (drop a s)
-
 -- how many terms there are after the rows, with t before them
 unfoldable pub after : ℕ → List Row → ℕ
 after t [] = t
@@ -37,14 +30,6 @@ after t (r ∷ rs) = after (t + r.head.count) rs
 -- and after one row
 abbrev pub upto : ℕ → Row → ℕ
 upto t x = t + x.head.count
-
-abbrev pub RowWithin : NumberRead → Type 0
-RowWithin (NumberRead.Refused n) = Unit {0}
-RowWithin (NumberRead.Got e a) = e ≤ 512
-
-pub record RowIs (t : ℕ) (s : List ℕ) (r : NumberRead) (g : Got Row) : Type 0 where
-  pub is : map_got (upto t) g ≡ number_got s r
-  pub within : RowWithin r
 
 -- ---- one after the other
 -- a part that was taken: its value, and what is left
@@ -104,6 +89,9 @@ module _ {A : Type 0} (p : Parser A) where
   skip_turn (suc k) {s} {r} {x} h e =
       let z : suc k - 1 ≡ k = omega arith in
       ap skipped (many_cons k e) ∙ skip_cons x (many p k r) ∙ ap (λ (m : ℕ). skipped (many p m r)) (sym z)
+
+  pub skip_next : (n i : ℕ) {s r : List ℕ} {x : A} → i < n → p s ≡ got x r → skipped (many p (n - i) s) ≡ skipped (many p (n - (i + 1)) r)
+  skip_next n i {r = r} h e = let z : n - i - 1 ≡ n - (i + 1) = omega arith in skip_turn (n - i) (omega arith) e ∙ ap (λ (m : ℕ). skipped (many p m r)) z
 
   pub skip_bad : (k : ℕ) {s : List ℕ} {n : ℕ} → 0 < k → p s ≡ refused n → skipped (many p k s) ≡ refused n
   unfolding map_got
@@ -170,6 +158,9 @@ module _ (t : ℕ) (s : List ℕ) where
       let z : suc k - 1 ≡ k = omega arith in
       ap (map_got (after t)) (rows_cons t s k x.is) ∙ map_after t x.value (rows k (t + x.value.head.count) r) ∙ ap
       (λ (m : ℕ). map_got (after m) (rows k m r)) y ∙ ap (λ (m : ℕ). map_got (after e) (rows m e r)) (sym z)
+
+  pub rows_next : (n i : ℕ) {e : ℕ} {r : List ℕ} → i < n → map_got (upto t) (row t s) ≡ got e r → map_got (after t) (rows (n - i) t s) ≡ map_got (after e) (rows (n - (i + 1)) e r)
+  rows_next n i {e} {r} h q = let z : n - i - 1 ≡ n - (i + 1) = omega arith in rows_turn (n - i) (omega arith) q ∙ ap (λ (m : ℕ). map_got (after e) (rows m e r)) z
 
   pub rows_bad : (k : ℕ) {n : ℕ} → 0 < k → map_got (upto t) (row t s) ≡ refused n → map_got (after t) (rows k t s) ≡ refused n
   unfolding map_got
@@ -242,6 +233,31 @@ module _ (h : Settings) (g : Got (List Row)) where
       sym (ap (rows_seen h) (x.is ∙ ap (got x.value) (drop_of_length-le s l)) ∙ ap
       (λ (m : ℕ). FileRead.Model
       (record { vars = h.vars; rows = h.rows; terms = m; feasibility = h.feasibility; int_tol = h.int_tol; mode = h.mode })) y)
+
+-- what stands after the rows decides
+end_more : (h : Settings) (rs : List Row) (s : List ℕ) {n : ℕ} → end s ≡ refused n → FileRead.Refused n ≡ rows_seen h (got rs s)
+unfolding end rows_seen
+end_more h rs [] e = absurd (let z : ◌≡◌ {A = ℕ} 0 1 = cc in omega arith)
+end_more h rs (b ∷ s) e = ap FileRead.Refused (cc)
+
+end_done : (h : Settings) (rs : List Row) (s : List ℕ) {r : List ℕ} → end s ≡ got tt r
+    → FileRead.Model (record { vars = h.vars; rows = h.rows; terms = after 0 rs; feasibility = h.feasibility; int_tol = h.int_tol; mode = h.mode }) ≡ rows_seen h (got rs s)
+unfolding end rows_seen
+end_done h rs [] e = refl
+end_done h rs (b ∷ s) e = absurd (let z : ◌≡◌ {A = ℕ} 0 1 = cc in omega arith)
+
+module _ (h : Settings) (g : Got (List Row)) {t : ℕ} {s : List ℕ} (e : map_got (after 0) g ≡ got t s) where
+  pub rest_more : {n : ℕ} → end s ≡ refused n → FileRead.Refused n ≡ rows_seen h g
+  rest_more q = let x = had (after 0) g t s e in end_more h x.value s q ∙ ap (rows_seen h) (sym x.is)
+
+  pub rest_done : {r : List ℕ} → end s ≡ got tt r
+      → FileRead.Model (record { vars = h.vars; rows = h.rows; terms = t; feasibility = h.feasibility; int_tol = h.int_tol; mode = h.mode })
+      ≡ rows_seen h g
+  rest_done q =
+      let x = had (after 0) g t s e in
+      let y : after 0 x.value ≡ t = map_value (after 0) x.is e in
+      ap (λ (m : ℕ). FileRead.Model (record { vars = h.vars; rows = h.rows; terms = m; feasibility = h.feasibility; int_tol = h.int_tol; mode = h.mode })) (sym y)
+      ∙ end_done h x.value s q ∙ ap (rows_seen h) (sym x.is)
 
 lists_header : (h : Settings) (vs : List Variable) (rs : List Row) → length vs ≡ h.vars → RowsAre h.rows rs → FileRead.Model (header_of (lists h vs rs)) ≡ rows_seen h (got rs [])
 unfolding header_of lists rows_seen

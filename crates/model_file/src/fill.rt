@@ -1,193 +1,81 @@
-// The pass that writes a file that was checked: its lists, to the front of the lent slices.
-ghost use Rattle.std.specs.Prelude.{◌≡◌, ◌+◌, ◌-◌, ◌≤◌, ◌<◌, length, drop, set};
-ghost use Rattle.model_file.specs.Format.{many, variable, term, row, rows};
+// The pass that writes a file that was checked: its lists, to the front of the lent slices. Why its functions
+// are not the other pass's is said in scan.
+ghost use Rattle.std.specs.Prelude.{◌≡◌, ◌-◌, ◌≤◌, ◌<◌, length, IfOk, IsOk, ℕ};
+ghost use Rattle.model_file.specs.Format.{row, rows};
+ghost use Rattle.model_file.specs.Places.{answered};
 ghost use Rattle.model_file.specs.Skips.{map_got, after, upto};
-ghost use Rattle.model_file.specs.Reading.{slices, read_into};
+ghost use Rattle.model_file.specs.Reading.{SameSlices, lent, read_into};
 ghost use Rattle.model_file.specs.Answers.{Ready};
-ghost use Rattle.model_file.specs.Fills.{Filled, RowFilled, var_columns, put_var, term_columns, put_term, row_columns, fill_rows, Within};
+ghost use Rattle.model_file.specs.Fills.{Filled, RowPlace, Roomy, sizes, put_start, fill_row, fill_rows};
 
-use crate::{
-    HeadRead, Next, NumberRead, SettingsRead, Term, TermRead, Variable, VariableRead, parts,
-};
+use crate::parts::Part;
+use crate::reader::Reader;
+use crate::{FileRefusal, ModelSlices, Term, Variable};
 
-fn put_variable(
-    objective: &mut [f64],
-    lower: &mut [f64],
-    upper: &mut [f64],
-    domain: &mut [u8],
-    v: usize,
-    x: Variable,
-)
-    requires { (v < length objective.old) × (v < length lower.old) × (v < length upper.old) × (v < length domain.old) }
-    ensures { var_columns objective.new lower.new upper.new domain.new
-        ≡ put_var v x (var_columns objective.old lower.old upper.old domain.old) }
-{
-    objective[v] = x.objective;
-    lower[v] = x.lower;
-    upper[v] = x.upper;
-    domain[v] = x.domain;
-}
-
-// The n variables from a place on.
-fn fill_variables(
-    s: &[u8],
+// The next parts, to the places from here up to end.
+fn fill<P: Part>(
+    reader: &mut Reader,
+    model: &mut ModelSlices,
     from: usize,
-    n: usize,
-    objective: &mut [f64],
-    lower: &mut [f64],
-    upper: &mut [f64],
-    domain: &mut [u8],
-) -> Next
-    requires { (n ≤ length objective.old) × (n ≤ length lower.old) × (n ≤ length upper.old) × (n ≤ length domain.old) }
-    ensures { Filled variable put_var n s.now from 0 result (var_columns objective.old lower.old upper.old
-        domain.old) (var_columns objective.new lower.new upper.new domain.new) }
+    end: usize,
+) -> Result<(), FileRefusal>
+    requires { (i : ℕ) → i < end → P.place i (sizes (lent model.old)) }
+    ensures same { SameSlices model.old model.new }
+    ensures filled { Filled P.parser P.put_gives (end - from) reader.old.rest.now from result reader.new.rest.now (lent model.old) (lent model.new) }
 {
-    let mut at = from;
-    let mut v = 0;
-    while v < n {
-        match parts::read_variable(s, at) {
-            VariableRead::Refused(x) => {
-                return Next::Refused(x);
-            }
-            VariableRead::Got(x, a) => {
-                put_variable(objective, lower, upper, domain, v, x);
-                at = a;
-            }
-        }
-        v += 1;
+    for i in from..end {
+        P::read(reader)?.put(model, i);
     }
-    Next::At(at)
+    Ok(())
 }
 
-// The terms from a place on, to the places from t0 up to e.
-fn fill_terms(
-    s: &[u8],
-    from: usize,
-    t0: usize,
-    e: usize,
-    index: &mut [usize],
-    coeff: &mut [f64],
-) -> Next
-    requires { (e ≤ length index.old) × (e ≤ length coeff.old) }
-    ensures { Filled term put_term (e - t0) s.now from t0 result (term_columns index.old coeff.old) (term_columns index.new coeff.new) }
-{
-    let mut at = from;
-    let mut t = t0;
-    while t < e {
-        match parts::read_term(s, at) {
-            TermRead::Refused(x) => {
-                return Next::Refused(x);
-            }
-            TermRead::Got(x, a) => {
-                index[t] = x.index;
-                coeff[t] = x.coeff;
-                at = a;
-            }
-        }
-        t += 1;
-    }
-    Next::At(at)
-}
-
-// Row r, with t terms before it: how many terms there are then, and the place after.
+// Row r, with t terms before it: how many terms there are then.
 fn fill_row(
-    s: &[u8],
-    at: usize,
+    reader: &mut Reader,
+    model: &mut ModelSlices,
     r: usize,
     t: usize,
-    starts: &mut [usize],
-    index: &mut [usize],
-    coeff: &mut [f64],
-    cmp: &mut [u8],
-    rhs: &mut [f64],
-) -> NumberRead
-    requires t_bound { (t ≤ 512) × (r + 1 < length starts.old) × (r < length cmp.old) × (r < length rhs.old) }
-    requires within { Within (map_got (upto t) (row t (drop at s.now))) (length index.old) × Within (map_got (upto t) (row t (drop at s.now))) (length coeff.old) }
-    ensures { RowFilled s.now at r t result (row_columns starts.old index.old coeff.old cmp.old
-        rhs.old) (row_columns starts.new index.new coeff.new cmp.new rhs.new) }
+) -> Result<usize, FileRefusal>
+    requires few { t ≤ 512 }
+    requires place { RowPlace r (sizes (lent model.old)) }
+    requires room { Roomy (map_got (upto t) (row t reader.old.rest.now)) (sizes (lent model.old)) }
+    ensures same { SameSlices model.old model.new }
+    ensures read { map_got (upto t) (row t reader.old.rest.now) ≡ answered result reader.new.rest.now }
+    ensures within { IfOk result (λ e. e ≤ 512) }
+    ensures filled { lent model.new ≡ fill_row r t reader.old.rest.now (lent model.old) }
 {
-    match parts::read_head(s, at, t) {
-        HeadRead::Refused(x) => NumberRead::Refused(x),
-        HeadRead::Got(h, a) => {
-            let e = t + h.count;
-            starts[r + 1] = e;
-            cmp[r] = h.cmp;
-            rhs[r] = h.rhs;
-            match fill_terms(s, a, t, e, index, coeff) {
-                Next::Refused(x) => NumberRead::Refused(x),
-                Next::At(b) => NumberRead::Got(e, b),
-            }
-        }
-    }
+    let head = reader.head(t)?;
+    let e = t + head.count;
+    model.put_head(r, e, head);
+    fill::<Term>(reader, model, t, e)?;
+    Ok(e)
 }
 
-// The n rows from a place on, and the first start.
-fn fill_rows(
-    s: &[u8],
-    from: usize,
-    n: usize,
-    starts: &mut [usize],
-    index: &mut [usize],
-    coeff: &mut [f64],
-    cmp: &mut [u8],
-    rhs: &mut [f64],
-)
-    requires n_in_bounds { (n < length starts.old) × (n ≤ length cmp.old) × (n ≤ length rhs.old) }
-    requires within { Within (map_got (after 0) (rows n 0 (drop from s.now))) (length index.old) × Within (map_got (after 0) (rows n 0 (drop from s.now))) (length coeff.old) }
-    ensures { row_columns starts.new index.new coeff.new cmp.new rhs.new
-        ≡ fill_rows n (drop from s.now) 0 0 (row_columns (set starts.old 0 0) index.old coeff.old cmp.old
-        rhs.old) }
+// The n rows, and the first start.
+fn fill_rows(reader: &mut Reader, model: &mut ModelSlices, n: usize) -> Result<(), FileRefusal>
+    requires places { (n < length model.old.starts.now) × (n ≤ length model.old.cmp.now) × (n ≤ length model.old.rhs.now) }
+    requires room { Roomy (map_got (after 0) (rows n 0 reader.old.rest.now)) (sizes (lent model.old)) }
+    ensures same { SameSlices model.old model.new }
+    ensures ok { IsOk result }
+    ensures filled { lent model.new ≡ fill_rows n reader.old.rest.now 0 0 (put_start (lent model.old)) }
 {
-    let mut at = from;
+    model.starts[0] = 0;
     let mut t = 0;
-    let mut r = 0;
-    starts[0] = 0;
-    while r < n {
-        match fill_row(s, at, r, t, starts, index, coeff, cmp, rhs) {
-            NumberRead::Refused(_) => {
-                return;
-            }
-            NumberRead::Got(e, a) => {
-                t = e;
-                at = a;
-            }
-        }
-        r += 1;
+    for r in 0..n {
+        t = fill_row(reader, model, r, t)?;
     }
+    Ok(())
 }
 
-// The whole file.
-pub(crate) fn fill_model(
-    bytes: &[u8],
-    objective: &mut [f64],
-    lower: &mut [f64],
-    upper: &mut [f64],
-    domain: &mut [u8],
-    starts: &mut [usize],
-    index: &mut [usize],
-    coeff: &mut [f64],
-    cmp: &mut [u8],
-    rhs: &mut [f64],
-)
-    requires { Ready bytes.now (slices objective.old lower.old upper.old domain.old starts.old index.old coeff.old cmp.old rhs.old) }
-    ensures { slices objective.new lower.new upper.new domain.new starts.new index.new
-        coeff.new cmp.new rhs.new ≡ (read_into bytes.now
-        (slices objective.old lower.old upper.old domain.old starts.old index.old
-        coeff.old cmp.old rhs.old)).lent }
+// The whole file, of which nothing is refused any more.
+pub(crate) fn fill_model(bytes: &[u8], model: &mut ModelSlices) -> Result<(), FileRefusal>
+    requires { Ready bytes.now (lent model.old) }
+    ensures same { SameSlices model.old model.new }
+    ensures ok { IsOk result }
+    ensures filled { lent model.new ≡ (read_into bytes.now (lent model.old)).lent }
 {
-    match parts::read_settings(bytes) {
-        SettingsRead::Refused(_) => {
-            return;
-        }
-        SettingsRead::Got(h, a) => {
-            match fill_variables(bytes, a, h.vars, objective, lower, upper, domain) {
-                Next::Refused(_) => {
-                    return;
-                }
-                Next::At(b) => {
-                    fill_rows(bytes, b, h.rows, starts, index, coeff, cmp, rhs);
-                }
-            }
-        }
-    }
+    let mut reader = Reader { rest: bytes };
+    let settings = reader.settings()?;
+    fill::<Variable>(&mut reader, model, 0, settings.vars)?;
+    fill_rows(&mut reader, model, settings.rows)
 }

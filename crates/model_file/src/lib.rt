@@ -3,14 +3,16 @@
 #![tactic(auto)]
 
 mod fill;
-mod numbers;
 mod parts;
+mod reader;
 mod scan;
+mod slices;
 
 ghost use Rattle.std.specs.Prelude.{◌≡◌};
-ghost use Rattle.model_file.specs.Reading.{slices, out, read_into, room_vars, room_rows};
+ghost use Rattle.model_file.specs.Reading.{SameSlices, number_of, file_read, lent, out, read_into};
 
-// What a file says beside its lists, with their sizes.
+// What a file says beside its lists, with their sizes. No `Settings` within: callers read its numbers alike,
+// and need not know that the count of terms stands at the rows.
 #[derive(Clone, Copy)]
 pub struct Header {
     pub vars: usize,
@@ -21,14 +23,31 @@ pub struct Header {
     pub mode: u8,
 }
 
-// A file read, or the refusal's number.
-#[derive(Clone, Copy)]
-pub enum FileRead {
-    Refused(u8),
-    Model(Header),
+// Why a file is not read. The numbers are those by which a program names a refusal.
+#[derive(Clone, Copy, Debug, PartialEq, Eq)]
+pub enum FileRefusal {
+    // A lent slice is too short for what the file holds.
+    NoRoom = 10,
+    // The next byte that is needed is missing.
+    Missing = 11,
+    // A reserved bit is set, or a code is above its range.
+    Reserved = 12,
+    // Bytes remain after the last row.
+    Trailing = 13,
+    // More than 128 variables, 128 rows or 512 terms.
+    TooMany = 14,
 }
 
-// A variable, a term and a row's head, as the file has them.
+impl From<FileRefusal> for u8 {
+    ghost from_gives = { λ e n. n ≡ number_of e };
+
+    fn from(refusal: FileRefusal) -> u8 {
+        refusal as u8
+    }
+}
+
+// A variable, a term and a row's head, as the file has them. Domain, comparison and mode stay bytes: they go
+// as they are into slices that the C interface has as bytes.
 #[derive(Clone, Copy)]
 pub struct Variable {
     pub objective: f64,
@@ -59,145 +78,30 @@ pub struct Settings {
     pub mode: u8,
 }
 
-// What stands at a place, with the place after it, or the refusal's number.
-#[derive(Clone, Copy)]
-pub enum NumberRead {
-    Refused(u8),
-    Got(usize, usize),
+// The lent slices that a model is read into: an entry for each variable, row or term, and a start more
+// than there are rows. They lie side by side, since the C interface lends a model so.
+#[derive(Drop)]
+pub struct ModelSlices<'a> {
+    pub objective: &'a mut [f64],
+    pub lower: &'a mut [f64],
+    pub upper: &'a mut [f64],
+    pub domain: &'a mut [u8],
+    pub starts: &'a mut [usize],
+    pub index: &'a mut [usize],
+    pub coeff: &'a mut [f64],
+    pub cmp: &'a mut [u8],
+    pub rhs: &'a mut [f64],
 }
 
-#[derive(Clone, Copy)]
-pub enum FloatRead {
-    Refused(u8),
-    Got(f64, usize),
-}
-
-#[derive(Clone, Copy)]
-pub enum VariableRead {
-    Refused(u8),
-    Got(Variable, usize),
-}
-
-#[derive(Clone, Copy)]
-pub enum HeadRead {
-    Refused(u8),
-    Got(RowHead, usize),
-}
-
-#[derive(Clone, Copy)]
-pub enum TermRead {
-    Refused(u8),
-    Got(Term, usize),
-}
-
-#[derive(Clone, Copy)]
-pub enum SettingsRead {
-    Refused(u8),
-    Got(Settings, usize),
-}
-
-// The place after what was passed, or the refusal's number.
-#[derive(Clone, Copy)]
-pub enum Next {
-    Refused(u8),
-    At(usize),
-}
-
-// Whether n variables go into slices of these lengths.
-fn room_variables(n: usize, objective: usize, lower: usize, upper: usize, domain: usize) -> bool
-    ensures { result ≡ room_vars n objective lower upper domain }
+// Reads a file into the front of the lent slices. A refusal writes nothing.
+pub fn read_model(bytes: &[u8], model: &mut ModelSlices) -> Result<Header, FileRefusal>
+    ensures same { SameSlices model.old model.new }
+    ensures read { out (file_read result) (lent model.new) ≡ read_into bytes.now (lent model.old) }
 {
-    if objective < n {
-        return false;
+    let header = scan::scan(bytes)?;
+    if !model.has_room(header) {
+        return Err(FileRefusal::NoRoom);
     }
-    if lower < n {
-        return false;
-    }
-    if upper < n {
-        return false;
-    }
-    if domain < n {
-        return false;
-    }
-    true
-}
-
-// Whether n rows with t terms go into slices of these lengths.
-fn room_rows(
-    n: usize,
-    t: usize,
-    starts: usize,
-    index: usize,
-    coeff: usize,
-    cmp: usize,
-    rhs: usize,
-) -> bool
-    ensures { result ≡ room_rows n t starts index coeff cmp rhs }
-{
-    if starts <= n {
-        return false;
-    }
-    if index < t {
-        return false;
-    }
-    if coeff < t {
-        return false;
-    }
-    if cmp < n {
-        return false;
-    }
-    if rhs < n {
-        return false;
-    }
-    true
-}
-
-// Reads a file into the front of the lent slices. A refusal, 11 to 14 by the file, or 10 where a slice
-// is too short for what the file holds, writes nothing.
-pub fn read_model(
-    bytes: &[u8],
-    objective: &mut [f64],
-    lower: &mut [f64],
-    upper: &mut [f64],
-    domain: &mut [u8],
-    starts: &mut [usize],
-    index: &mut [usize],
-    coeff: &mut [f64],
-    cmp: &mut [u8],
-    rhs: &mut [f64],
-) -> FileRead
-    ensures { out result (slices objective.new lower.new upper.new domain.new starts.new index.new
-        coeff.new cmp.new rhs.new) ≡ read_into bytes.now
-        (slices objective.old lower.old upper.old domain.old starts.old index.old
-        coeff.old cmp.old rhs.old) }
-{
-    match scan::scan(bytes) {
-        FileRead::Refused(n) => FileRead::Refused(n),
-        FileRead::Model(h) => {
-            if !room_variables(
-                h.vars,
-                objective.len(),
-                lower.len(),
-                upper.len(),
-                domain.len(),
-            ) {
-                return FileRead::Refused(10);
-            }
-            if !room_rows(
-                h.rows,
-                h.terms,
-                starts.len(),
-                index.len(),
-                coeff.len(),
-                cmp.len(),
-                rhs.len(),
-            ) {
-                return FileRead::Refused(10);
-            }
-            fill::fill_model(
-                bytes, objective, lower, upper, domain, starts, index, coeff, cmp, rhs,
-            );
-            FileRead::Model(h)
-        }
-    }
+    fill::fill_model(bytes, model)?;
+    Ok(header)
 }

@@ -1,159 +1,159 @@
 // The parts of the file, each by value.
-ghost use Rattle.std.specs.Prelude.{◌≡◌, ◌≤◌, drop};
-ghost use Rattle.model_file.specs.Format.{values, variable, side, head, term, rules, settings};
-ghost use Rattle.model_file.specs.Places.{variable_got, HeadIs, term_got, settings_got};
+ghost use Rattle.std.specs.Prelude.{◌≡◌, ◌≤◌, ◌<◌, ◌+◌, ◌/◌, ◌%◌, ℕ, IfOk, eqb};
+ghost use Rattle.model_file.specs.Format.{Parser, values, variable, side, head, term, rules, settings};
+ghost use Rattle.model_file.specs.Places.{answered};
+ghost use Rattle.model_file.specs.Reading.{Slices, SameSlices, lent};
+ghost use Rattle.model_file.specs.Fills.{Sizes, sizes, VarPlace, TermPlace, put_var, put_term, sizes_var, sizes_term};
 
-use crate::{
-    FloatRead, HeadRead, NumberRead, RowHead, Settings, SettingsRead, Term, TermRead, Variable,
-    VariableRead, numbers,
-};
+use crate::reader::Reader;
+use crate::{FileRefusal, ModelSlices, RowHead, Settings, Term, Variable};
 
-// The floats that a variable's map announces.
-fn read_values(s: &[u8], at: usize, map: u8) -> VariableRead
-    ensures { values map (drop at s.now) ≡ variable_got s.now result }
+// The bit of a map that has this weight.
+fn bit(map: u8, weight: u8) -> bool
+    requires { 0 < weight }
+    ensures { result ≡ eqb (map / weight % 2) 1 }
 {
-    match numbers::read_optional(s, at, numbers::bit(map, 1), 0.0) {
-        FloatRead::Refused(n) => VariableRead::Refused(n),
-        FloatRead::Got(objective, a) => match numbers::read_optional(
-            s,
-            a,
-            numbers::bit(map, 2),
-            0.0,
-        ) {
-            FloatRead::Refused(n) => VariableRead::Refused(n),
-            FloatRead::Got(lower, b) => match numbers::read_optional(
-                s,
-                b,
-                numbers::bit(map, 4),
-                floats::infinity(),
-            ) {
-                FloatRead::Refused(n) => VariableRead::Refused(n),
-                FloatRead::Got(upper, c) => VariableRead::Got(
-                    Variable {
-                        objective,
-                        lower,
-                        upper,
-                        domain: map / 8 % 4,
-                    },
-                    c,
-                ),
-            },
-        },
-    }
+    map / weight % 2 == 1
 }
 
-pub(crate) fn read_variable(s: &[u8], at: usize) -> VariableRead
-    ensures { variable (drop at s.now) ≡ variable_got s.now result }
-{
-    if s.len() <= at {
-        return VariableRead::Refused(11);
-    }
-    let map = s[at];
-    if 31 < map {
-        return VariableRead::Refused(12);
-    }
-    if 2 < map / 8 % 4 {
-        return VariableRead::Refused(12);
-    }
-    read_values(s, at + 1, map)
+// A part of which a file has many: how it is read, and where it goes.
+pub(crate) trait Part: Copy {
+    ghost parser: { Parser Self };
+
+    ghost place: { ℕ → Sizes → Type 0 };
+
+    ghost put_gives: { ℕ → Self → Slices → Slices };
+
+    fn read(reader: &mut Reader) -> Result<Self, FileRefusal>
+        ensures { parser reader.old.rest.now ≡ answered result reader.new.rest.now };
+
+    fn put(self, model: &mut ModelSlices, i: usize)
+        requires { place i (sizes (lent model.old)) }
+        ensures same { SameSlices model.old model.new }
+        ensures put { lent model.new ≡ put_gives i self (lent model.old) };
+
+    ghost keeps: { (i : ℕ) (x : Self) (l : Slices) → sizes (put_gives i x l) ≡ sizes l };
 }
 
-// The right side that a row's map announces, and the count of its terms, after t terms.
-fn read_side(s: &[u8], at: usize, t: usize, map: u8) -> HeadRead
-    requires { t ≤ 512 }
-    ensures { HeadIs t s.now result (side t map (drop at s.now)) }
-{
-    match numbers::read_optional(s, at, numbers::bit(map, 4), 0.0) {
-        FloatRead::Refused(n) => HeadRead::Refused(n),
-        FloatRead::Got(rhs, a) => {
-            if numbers::left(s, a) < 2 {
-                return HeadRead::Refused(11);
-            }
-            let n = numbers::u16_at(s, a);
-            if 512 < t + n {
-                return HeadRead::Refused(14);
-            }
-            HeadRead::Got(
-                RowHead {
-                    cmp: map % 4,
-                    rhs,
-                    count: n,
-                },
-                a + 2,
-            )
+impl Part for Variable {
+    ghost parser = { variable };
+
+    ghost place = { VarPlace };
+
+    ghost put_gives = { put_var };
+
+    ghost keeps = { sizes_var };
+
+    fn read(reader: &mut Reader) -> Result<Variable, FileRefusal> {
+        let map = reader.byte()?;
+        if 31 < map {
+            return Err(FileRefusal::Reserved);
         }
+        if 2 < map / 8 % 4 {
+            return Err(FileRefusal::Reserved);
+        }
+        reader.values(map)
+    }
+
+    fn put(self, model: &mut ModelSlices, v: usize) {
+        model.objective[v] = self.objective;
+        model.lower[v] = self.lower;
+        model.upper[v] = self.upper;
+        model.domain[v] = self.domain;
     }
 }
 
-pub(crate) fn read_head(s: &[u8], at: usize, t: usize) -> HeadRead
-    requires { t ≤ 512 }
-    ensures { HeadIs t s.now result (head t (drop at s.now)) }
-{
-    if s.len() <= at {
-        return HeadRead::Refused(11);
-    }
-    let map = s[at];
-    if 7 < map {
-        return HeadRead::Refused(12);
-    }
-    if 2 < map % 4 {
-        return HeadRead::Refused(12);
-    }
-    read_side(s, at + 1, t, map)
-}
+impl Part for Term {
+    ghost parser = { term };
 
-pub(crate) fn read_term(s: &[u8], at: usize) -> TermRead
-    ensures { term (drop at s.now) ≡ term_got s.now result }
-{
-    if numbers::left(s, at) < 2 {
-        return TermRead::Refused(11);
+    ghost place = { TermPlace };
+
+    ghost put_gives = { put_term };
+
+    ghost keeps = { sizes_term };
+
+    fn read(reader: &mut Reader) -> Result<Term, FileRefusal> {
+        let index = reader.short()?;
+        let coeff = reader.float()?;
+        Ok(Term { index, coeff })
     }
-    let index = numbers::u16_at(s, at);
-    match numbers::read_float(s, at + 2) {
-        FloatRead::Refused(n) => TermRead::Refused(n),
-        FloatRead::Got(coeff, a) => TermRead::Got(Term { index, coeff }, a),
+
+    fn put(self, model: &mut ModelSlices, t: usize) {
+        model.index[t] = self.index;
+        model.coeff[t] = self.coeff;
     }
 }
 
-// Both tolerances and the mode, after the counts.
-fn read_rules(s: &[u8], vars: usize, rows: usize, at: usize) -> SettingsRead
-    ensures { rules vars rows (drop at s.now) ≡ settings_got s.now result }
-{
-    match numbers::read_float(s, at) {
-        FloatRead::Refused(n) => SettingsRead::Refused(n),
-        FloatRead::Got(feasibility, a) => match numbers::read_float(s, a) {
-            FloatRead::Refused(n) => SettingsRead::Refused(n),
-            FloatRead::Got(int_tol, b) => {
-                if s.len() <= b {
-                    return SettingsRead::Refused(11);
-                }
-                let mode = s[b];
-                if 2 < mode {
-                    return SettingsRead::Refused(12);
-                }
-                SettingsRead::Got(
-                    Settings {
-                        vars,
-                        rows,
-                        feasibility,
-                        int_tol,
-                        mode,
-                    },
-                    b + 1,
-                )
-            }
-        },
+impl<'a> Reader<'a> {
+    // The floats that a variable's map announces.
+    fn values(&mut self, map: u8) -> Result<Variable, FileRefusal>
+        ensures { values map self.old.rest.now ≡ answered result self.new.rest.now }
+    {
+        let objective = self.optional(bit(map, 1), 0.0)?;
+        let lower = self.optional(bit(map, 2), 0.0)?;
+        let upper = self.optional(bit(map, 4), floats::infinity())?;
+        Ok(Variable {
+            objective,
+            lower,
+            upper,
+            domain: map / 8 % 4,
+        })
     }
-}
 
-pub(crate) fn read_settings(s: &[u8]) -> SettingsRead
-    ensures { settings s.now ≡ settings_got s.now result }
-{
-    match numbers::read_count(s, 0) {
-        NumberRead::Refused(n) => SettingsRead::Refused(n),
-        NumberRead::Got(vars, a) => match numbers::read_count(s, a) {
-            NumberRead::Refused(n) => SettingsRead::Refused(n),
-            NumberRead::Got(rows, b) => read_rules(s, vars, rows, b),
-        },
+    // The right side that a row's map announces, and the count of its terms, after t terms.
+    fn side(&mut self, t: usize, map: u8) -> Result<RowHead, FileRefusal>
+        requires { t ≤ 512 }
+        ensures read { side t map self.old.rest.now ≡ answered result self.new.rest.now }
+        ensures few { IfOk result (λ h. t + h.count ≤ 512) }
+    {
+        let rhs = self.optional(bit(map, 4), 0.0)?;
+        let count = self.short()?;
+        if 512 < t + count {
+            return Err(FileRefusal::TooMany);
+        }
+        Ok(RowHead {
+            cmp: map % 4,
+            rhs,
+            count,
+        })
+    }
+
+    pub(crate) fn head(&mut self, t: usize) -> Result<RowHead, FileRefusal>
+        requires { t ≤ 512 }
+        ensures read { head t self.old.rest.now ≡ answered result self.new.rest.now }
+        ensures few { IfOk result (λ h. t + h.count ≤ 512) }
+    {
+        let map = self.byte()?;
+        if 7 < map {
+            return Err(FileRefusal::Reserved);
+        }
+        if 2 < map % 4 {
+            return Err(FileRefusal::Reserved);
+        }
+        self.side(t, map)
+    }
+
+    // Both tolerances and the mode, after the counts.
+    fn rules(&mut self, vars: usize, rows: usize) -> Result<Settings, FileRefusal>
+        ensures { rules vars rows self.old.rest.now ≡ answered result self.new.rest.now }
+    {
+        let feasibility = self.float()?;
+        let int_tol = self.float()?;
+        let mode = self.code()?;
+        Ok(Settings {
+            vars,
+            rows,
+            feasibility,
+            int_tol,
+            mode,
+        })
+    }
+
+    pub(crate) fn settings(&mut self) -> Result<Settings, FileRefusal>
+        ensures { settings self.old.rest.now ≡ answered result self.new.rest.now }
+    {
+        let vars = self.count()?;
+        let rows = self.count()?;
+        self.rules(vars, rows)
     }
 }

@@ -6,6 +6,7 @@ use Rattle.tolerances.specs.Tol.{Term}
 use Rattle.definition.specs.Model.{Model, Emit, Reduced, Answer, infeasible, done}
 use Rattle.definition.specs.Work.{Work}
 use Rattle.definition.specs.Emit.{Out, final, differs, answer_of}
+use Rattle.definition.specs.declared.Input.{Input}
 use Rattle.space.specs.declared.Shape.{Shape}
 use Rattle.space.specs.Store.{Floats, Numbers}
 use Rattle.view.specs.Call.{Call}
@@ -28,10 +29,10 @@ use Rattle.output.specs.Summary.{CountedAs, counted_as, differsBy}
 use Rattle.output.specs.Writing.{outs, keeps, outputs, ListsOut, all-ten}
 
 -- what the read-only slices say of the model: its bounds, and its rows as written
-pub record Given (ls us : List Float) (ss is : List ℕ) (cs : List Float) (os : List ℕ) (bs : List Float) (M : Model) : Type 0 where
-  pub lower : M.lower ≡ ls
-  pub upper : M.upper ≡ us
-  pub rows : Written ss is cs os bs M
+pub record Given (x : Input) (M : Model) : Type 0 where
+  pub lower : M.lower ≡ x.lower.now
+  pub upper : M.upper ≡ x.upper.now
+  pub rows : Written x.rows M
 
 -- THE ANSWER a is in the result slices b', which were b before, and in z
 pub record Answered (a : Reduced) (z : code.Reduced) (b b' : Results) : Type 0 where
@@ -60,8 +61,8 @@ answer-is : (M : Model) (u : Work) (x : Out) (a : Reduced) → answer_of M (fina
 unfolding answer_of reduced_in
 answer-is M u x a e = ap (reduced_in a) e
 
-module _ {M : Model} {s : Shape} {f : Floats} {n : Numbers} {o : List ℕ} {k : ℕ} {u : Work} {ls us : List Float} {ss is : List ℕ} {cs : List Float} {os : List ℕ} {bs : List Float}
-    (c : Call M s) (g : Given ls us ss is cs os bs M) (h : Shows M f n o u) (i : Inv M k u) (F : Fates M n.fate f.bound u.rows s.rows) where
+module _ {M : Model} {s : Shape} {f : Floats} {n : Numbers} {o : List ℕ} {k : ℕ} {u : Work} {x : Input}
+    (c : Call M s) (g : Given x M) (h : Shows M f n o u) (i : Inv M k u) (F : Fates M n.fate f.bound u.rows s.rows) where
   abbrev x₀ : Out
   x₀ = out_of M u.rows (length M.rhs)
 
@@ -74,7 +75,7 @@ module _ {M : Model} {s : Shape} {f : Floats} {n : Numbers} {o : List ℕ} {k : 
   keeps-are : keeps s n ≡ length x₀.kept
   keeps-are = sym (ap length out-now.kept)
 
-  lists-are : (b : Results) → outputs s ss is bs f n b ≡ written (answered M u x₀) b
+  lists-are : (b : Results) → outputs s x.rows f n b ≡ written (answered M u x₀) b
   unfolding written
   lists-are b =
       all-ten (ap (λ (l : List Float). over l b.lower) h.elo) (ap (λ (l : List Float). over l b.upper) h.ehi)
@@ -83,11 +84,11 @@ module _ {M : Model} {s : Shape} {f : Floats} {n : Numbers} {o : List ℕ} {k : 
       (ap (λ (l : List ℕ). over l b.emit_upto) (sym out-now.upto)) (ap (λ (l : List ℕ). over l b.kept) (sym out-now.kept))
       (ap (λ (l : List Term). over (vars_of l) b.term_index) (sym out-now.terms)) (ap (λ (l : List Term). over (coeffs_of l) b.term_coeff) (sym out-now.terms))
 
-  flag_is : differsBy s ls us f (outs s n) (keeps s n) ≡ differs M u x₀
+  flag_is : differsBy s x.lower.now x.upper.now f (outs s n) (keeps s n) ≡ differs M u x₀
   unfolding differsBy differs
   flag_is = rw (h.elo, h.ehi, ← g.lower, ← g.upper, outs-are, keeps-are, c.rows)
 
-  all-answered : {z : code.Reduced} {b b' : Results} → ListsOut s ls us ss is bs f n z b b' → Answered (answered M u x₀) z b b'
+  all-answered : {z : code.Reduced} {b b' : Results} → ListsOut s x f n z b b' → Answered (answered M u x₀) z b b'
   all-answered {z} {b} {b'} L =
       record {
         lists = L.lists ∙ lists-are b;
@@ -99,34 +100,34 @@ module _ {M : Model} {s : Shape} {f : Floats} {n : Numbers} {o : List ℕ} {k : 
       }
 
 -- ---- write_results
-module _ {ls us : List Float} {ss is : List ℕ} {cs : List Float} {os : List ℕ} {bs : List Float} {s : Shape} {f : Floats} {n : Numbers} where
-  module _ (R : Ready (Given ls us ss is cs os bs) s f n) where
-    pub ready_rows : Ready (Written ss is cs os bs) s f n
+module _ {x : Input} {s : Shape} {f : Floats} {n : Numbers} where
+  module _ (R : Ready (Given x) s f n) where
+    pub ready_rows : Ready (Written x.rows) s f n
     ready_rows = ready_under (λ M g. g.rows) R
 
     -- the model's bounds and right sides are as long as the call says
-    pub lowers : length ls ≡ s.vars
+    pub lowers : length x.lower.now ≡ s.vars
     lowers = omega (arith, ap length R.known.lower, R.call.vars)
 
-    pub uppers : length us ≡ s.vars
+    pub uppers : length x.upper.now ≡ s.vars
     uppers = omega (arith, ap length R.known.upper, R.call.uppers, R.call.vars)
 
-    pub sides : s.rows ≤ length bs
+    pub sides : s.rows ≤ length x.rows.rhs.now
     sides = omega (arith, ap length R.known.rows.rhs, R.call.rows)
 
   -- after judge_rows
-  module _ {f' : Floats} {n' : Numbers} (J : Judged (Written ss is cs os bs) s f n f' n' s.rows) where
-    module _ (R : Ready (Given ls us ss is cs os bs) s f n) where
+  module _ {f' : Floats} {n' : Numbers} (J : Judged (Written x.rows) s f n f' n' s.rows) where
+    module _ (R : Ready (Given x) s f n) where
       fates-of : Fates R.model n'.fate f'.bound R.work.rows s.rows
       fates-of = J.fates R.model R.other R.left R.work R.known.rows R.call R.shows R.inv
 
-      pub spanned-judged : Spanned s ss n'
+      pub spanned-judged : Spanned s x.rows.starts.now n'
       spanned-judged = spanned_of R.call R.known.rows (shows_still J.floats J.numbers R.shows) R.inv fates-of
 
-      pub indexed-judged : Indexed s ss is n'
+      pub indexed-judged : Indexed s x.rows.starts.now x.rows.index.now n'
       indexed-judged = indexed_of R.call R.known.rows (shows_still J.floats J.numbers R.shows) R.inv fates-of
 
-    pub writes-out : {z : code.Reduced} {b b' : Results} → ListsOut s ls us ss is bs f' n' z b b' → WritesOut (Given ls us ss is cs os bs) s f n z b b'
+    pub writes-out : {z : code.Reduced} {b b' : Results} → ListsOut s x f' n' z b b' → WritesOut (Given x) s f n z b b'
     writes-out {z} {b} {b'} L =
         record {
           writes = λ M o k u g c h i a e.

@@ -10,8 +10,7 @@ use Rattle.definition.specs.Cases.{Case, cases}
 use Rattle.definition.proofs.Cases.{case_accepted, case_answered}
 use Rattle.definition.proofs.Edges.{longer_accepted}
 use Rattle.output.specs.Results.{Results}
-use Rattle.presolve.specs.declared.Answer.{Answer}
-use Rattle.presolve.specs.Promise.{Working, lengths, answer_is, outcome, results_after, Promise}
+use Rattle.presolve.specs.Promise.{Working, lengths, Answer, answer_is, outcome, results_after, Promise}
 
 -- the shortest slices are such (definition, `shortest_enough`)
 pub twelve_calls : {c : Case} → Memᴰ c cases → {b b' : Results} {x x' : Working} {z : Answer} → Promise c.model b x z b' x'

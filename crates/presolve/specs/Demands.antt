@@ -29,8 +29,7 @@ use Rattle.row_terms.specs.RowMark.{marked}
 use Rattle.row_terms.specs.Place.{place_of, vars_there, coeffs_there, count_all_lem}
 use Rattle.emit.specs.Terms.{vars_of, coeffs_of}
 use Rattle.output.specs.Results.{Results, written}
-use Rattle.presolve.specs.declared.Answer.{Answer}
-use Rattle.presolve.specs.Promise.{Working, working, lengths, Outcome, refused, infeasible, presolved, answer_is, outcome, results_after, working_after, Promise}
+use Rattle.presolve.specs.Promise.{Working, working, lengths, Outcome, refused, infeasible, presolved, Answer, answer_is, outcome, results_after, working_after, Promise}
 use Rattle.presolve.specs.Fronts.{entry_at, entries_from, entry_member, entries_length, reduced_in, reduced_in_lem}
 use Rattle.presolve.specs.RowTerms.{row_vars, row_coeffs, all_member, row_vars_lem, row_coeffs_lem}
 

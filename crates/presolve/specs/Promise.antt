@@ -1,5 +1,5 @@
 -- WHAT A CALL OF presolve PROMISES: three equations with the definition, over the call's numbers and the lengths of the lent slices alone.
-use Rattle.std.specs.Prelude.{ℕ, ◌≡◌, Bool, List, length, replicate, Float}
+use Rattle.std.specs.Prelude.{ℕ, ◌≡◌, Bool, List, length, replicate, Float, Result, Ok, Err}
 use Rattle.std.proofs.Math.Option.{Option, none, some}
 use Rattle.floats.specs.Num.{0f}
 use Rattle.definition.specs.declared.Counts.{Counts}
@@ -8,8 +8,11 @@ use Rattle.definition.specs.Model.{Model}
 use Rattle.definition.specs.Presolve.{presolve}
 use Rattle.definition.specs.Refusal.{Lent, refusal}
 use Rattle.output.specs.Results.{Results, written}
-use Rattle.presolve.specs.declared.Answer.{Answer}
-use Rattle.presolve.specs.declared.Answer.TheVariants.{Refused, Infeasible, Presolved}
+use Rattle.refuse.specs.declared.Refusal.{Refusal}
+use Rattle.refuse.specs.Number.{number_of}
+use Rattle.presolve.specs.declared.Space.{Space}
+use Rattle.presolve.specs.declared.Presolved.{Presolved}
+use Rattle.presolve.specs.declared.Presolved.TheVariants as variants
 
 -- the lent working slices
 pub record Working : Type 0 where
@@ -19,6 +22,16 @@ pub record Working : Type 0 where
 
 abbrev pub working : List Float → List ℕ → List ℕ → Working
 working f n j = record { floats = f; numbers = n; adjacency = j }
+
+-- what stands in the working slices
+abbrev pub working_of : Space → Working
+working_of x = working x.floats.now x.numbers.now x.adjacency.now
+
+-- the working slices are the same ones
+pub record SameSpace (x x' : Space) : Type 0 where
+  pub floats : x'.floats.ghost_name ≡ x.floats.ghost_name
+  pub numbers : x'.numbers.ghost_name ≡ x.numbers.ghost_name
+  pub adjacency : x'.adjacency.ghost_name ≡ x.adjacency.ghost_name
 
 -- the lengths of all lent slices, which refusal 10 looks at
 abbrev pub lengths : Results → Working → Lent
@@ -47,10 +60,16 @@ pub data Outcome : Type 0 where
   infeasible : Counts → Outcome
   presolved : Counts → ℕ → ℕ → ℕ → Bool → Outcome
 
+abbrev pub Answer : Type 0
+Answer = Result Presolved Refusal
+
+abbrev pub presolved_is : Presolved → Outcome
+presolved_is (variants.Infeasible k) = infeasible k
+presolved_is (variants.Model x) = presolved x.counts x.emitted x.terms x.kept x.flag
+
 abbrev pub answer_is : Answer → Outcome
-answer_is (Refused k) = refused k
-answer_is (Infeasible k) = infeasible k
-answer_is (Presolved x) = presolved x.counts x.emitted x.terms x.kept x.flag
+answer_is (Ok z) = presolved_is z
+answer_is (Err k) = refused (number_of k)
 
 -- the table's refusal, or else the definition's answer
 unfoldable pub outcome : Option ℕ → definition.Answer → Outcome

@@ -1,15 +1,16 @@
 -- `reduced_model`, the second answer: no reduced model where presolve found the model infeasible or left it as it was.
-use Rattle.std.specs.Prelude.{ℕ, Bool, length}
+use Rattle.std.specs.Prelude.{ℕ, ◌≡◌, refl, Bool, true, false, length, Some, None, Result, Ok, Err}
+use Rattle.std.specs.Bool.{then_some}
+use Rattle.std.specs.Prelude as prelude
 use Rattle.std.proofs.Math.Option.{Option, none, some}
 use Rattle.floats.specs.Num.{choose}
 use Rattle.definition.specs.declared.Counts.{Counts}
-use Rattle.definition.specs.Model as definition
-use Rattle.definition.specs.Model.{Model, Reduced}
-use Rattle.definition.specs.Presolve.{presolve, reduced_model}
-use Rattle.presolve.specs.declared.Answer.{Answer}
-use Rattle.presolve.specs.declared.SecondAnswer as code
-use Rattle.presolve.specs.declared.SecondAnswer.TheVariants as variants
-use Rattle.presolve.specs.Promise.{Outcome, infeasible, presolved}
+use Rattle.definition.specs.Model.{Reduced}
+use Rattle.refuse.specs.declared.Refusal.{Refusal}
+use Rattle.refuse.specs.Number.{number_of}
+use Rattle.output.specs.declared.Reduced as code
+use Rattle.presolve.specs.declared.Presolved.TheVariants as variants
+use Rattle.presolve.specs.Promise.{Outcome, infeasible, presolved, presolved_is}
 use Rattle.presolve.specs.Promise as promise
 
 -- each answer's number and values
@@ -18,16 +19,25 @@ pub data Second : Type 0 where
   no_model : Second
   reduced : Counts → ℕ → ℕ → ℕ → Bool → Second
 
-abbrev pub second_is : code.SecondAnswer → Second
-second_is (variants.Refused k) = refused k
-second_is variants.NoReducedModel = no_model
-second_is (variants.Reduced x) = reduced x.counts x.emitted x.terms x.kept x.flag
+abbrev pub second_is : Result (prelude.Option code.Reduced) Refusal → Second
+second_is (Ok (Some x)) = reduced x.counts x.emitted x.terms x.kept x.flag
+second_is (Ok None) = no_model
+second_is (Err k) = refused (number_of k)
 
 -- of presolve's answer
 unfoldable pub second : Outcome → Second
 second (promise.refused k) = refused k
 second (infeasible k) = no_model
 second (presolved k n t q g) = choose g (reduced k n t q g) no_model
+
+-- a model, by its flag
+pub second_chosen : (x : code.Reduced) {y : prelude.Option code.Reduced} → y ≡ then_some x.flag x → second_is (Ok y) ≡ second (presolved_is (variants.Model x))
+unfolding second choose
+second_chosen x e = rw e (go x.flag)
+  where
+    go : (g : Bool) → second_is (Ok (then_some g x)) ≡ choose g (reduced x.counts x.emitted x.terms x.kept x.flag) no_model
+    go true = refl
+    go false = refl
 
 -- of the definition's
 unfoldable pub second_of : Option ℕ → Option Reduced → Second

@@ -1,10 +1,12 @@
 -- The call step by step: an accepted call's shape and room, and the promise from what the steps promise.
-use Rattle.std.specs.Prelude.{ℕ, ◌+◌, ◌≤◌, ◌≡◌, Bool, List, length, replicate, Float}
+use Rattle.std.specs.Prelude.{ℕ, ◌+◌, ◌≤◌, ◌≡◌, Bool, List, length, replicate, Float, ⊤, Result, Ok, Err}
 use Rattle.std.proofs.Common.{arith, ◌∙◌, subst}
 use Rattle.std.proofs.Math.Path.{refl, ap, sym}
 use Rattle.std.proofs.Math.Option.{Option, none, some}
 use Rattle.floats.specs.Num.{0f}
 use Rattle.definition.specs.declared.Counts.{Counts}
+use Rattle.definition.specs.declared.Infeasible.{Infeasible}
+use Rattle.definition.specs.declared.Input.{Input}
 use Rattle.definition.specs.Params.{params}
 use Rattle.definition.specs.Model as definition
 use Rattle.definition.specs.Model.{Model, is_mip, Reduced}
@@ -14,15 +16,13 @@ use Rattle.definition.specs.Presolve.{presolve}
 use Rattle.definition.specs.Refusal.{refusal}
 use Rattle.formulas.specs.Fixing.{mip}
 use Rattle.space.specs.declared.Shape.{Shape}
-use Rattle.space.specs.declared.Step.TheVariants.{Stop, Next}
 use Rattle.space.specs.Store.{Floats, Numbers, HoldsF, HoldsN}
 use Rattle.view.specs.Call.{Call}
 use Rattle.view.specs.Acts.{Ready}
 use Rattle.folds.specs.Written.{Given}
-use Rattle.refuse.specs.declared.Refusal as refuse
-use Rattle.refuse.specs.declared.Refusal.TheVariants as refuses
-use Rattle.refuse.specs.declared.Refusal.TheVariants.{Number}
-use Rattle.refuse.specs.Of.{refused_is}
+use Rattle.refuse.specs.declared.Refusal.{Refusal}
+use Rattle.refuse.specs.Number.{number_of}
+use Rattle.refuse.specs.Of.{input_model, refused_is}
 use Rattle.refuse.specs.Rows.{lengths_agree}
 use Rattle.refuse.specs.Accepted.{accepted, Scalars, call_of, Room, room_of}
 use Rattle.tally.specs.Theorem.{CountsFit, Fits, counts_fit, fits_infeasible, fits_done}
@@ -34,8 +34,8 @@ use Rattle.output.specs.Summary.{counts_of, counted_as, Small, counts_are}
 use Rattle.output.specs.Answered as answered
 use Rattle.output.specs.Answered.{WritesOut}
 use Rattle.reduce.specs.Reducing.{Called, Reduces, ended_is, settled_is}
-use Rattle.presolve.specs.declared.Answer.{Answer}
-use Rattle.presolve.specs.Promise.{Working, working, lengths, refused, infeasible, presolved, answer_is, outcome, results_after, working_after, Promise}
+use Rattle.presolve.specs.declared.Presolved.{Presolved}
+use Rattle.presolve.specs.Promise.{Working, working, lengths, refused, infeasible, presolved, Answer, presolved_is, answer_is, outcome, results_after, working_after, Promise}
 
 -- ---- clear
 pub all_zero : (f : List Float) (n j : List ℕ) {f' : List Float} {n' j' : List ℕ} → f' ≡ replicate (length f) 0f → n' ≡ replicate (length n) 0
@@ -53,11 +53,11 @@ pub still_holds : {n l l' : ℕ} → l' ≡ l → n ≤ l → n ≤ l'
 still_holds e p = omega (arith, e, p)
 
 -- ---- a refusal
-pub promise_refused : {M : Model} {b : Results} {x : Working} (k : ℕ) {y : refuse.Refusal} {z : Answer} → refused_is y ≡ refusal M (lengths b x) → y ≡ Number k
-    → answer_is z ≡ refused k → Promise M b x z b x
+pub promise_refused : {M : Model} {b : Results} {x : Working} (k : Refusal) {y : Result ⊤ Refusal} {z : Answer} → refused_is y ≡ refusal M (lengths b x) → y ≡ Err k
+    → answer_is z ≡ refused (number_of k) → Promise M b x z b x
 unfolding outcome results_after working_after
 promise_refused {M} {b} {x} k t g a =
-    let e : refusal M (lengths b x) ≡ some k = sym t ∙ ap refused_is g in
+    let e : refusal M (lengths b x) ≡ some (number_of k) = sym t ∙ ap refused_is g in
     record {
       answer = a ∙ sym (ap (λ (o : Option ℕ). outcome o (presolve M)) e);
       results = sym (ap (λ (o : Option ℕ). results_after o (presolve M) b) e);
@@ -77,16 +77,16 @@ same_values : {k k' : Counts} {n n' t t' q q' : ℕ} {g g' : Bool} → k ≡ k' 
 same_values a b c d e = rw (a, b, c, d, e) refl
 
 -- ---- finished: z has the answer that is in the result slices
-pub record Finished (P : Model → Type 0) (s : Shape) (f : Floats) (n : Numbers) (z : Answer) (b b' : Results) : Type 0 where
+pub record Finished (P : Model → Type 0) (s : Shape) (f : Floats) (n : Numbers) (z : Presolved) (b b' : Results) : Type 0 where
   pub reduced : code.Reduced
-  pub is : answer_is z ≡ presolved reduced.counts reduced.emitted reduced.terms reduced.kept reduced.flag
+  pub is : presolved_is z ≡ presolved reduced.counts reduced.emitted reduced.terms reduced.kept reduced.flag
   pub writes : WritesOut P s f n reduced b b'
 
 -- ---- an accepted call, and its scalars
 pub record Passes (M : Model) (b : Results) (x : Working) : Type 0 where
   pub table : refusal M (lengths b x) ≡ none
 
-pub passes : {M : Model} {b : Results} {x : Working} {y : refuse.Refusal} → refused_is y ≡ refusal M (lengths b x) → y ≡ refuses.Accepted → Passes M b x
+pub passes : {M : Model} {b : Results} {x : Working} {y : Result ⊤ Refusal} {u : ⊤} → refused_is y ≡ refusal M (lengths b x) → y ≡ Ok u → Passes M b x
 passes t g = record { table = sym t ∙ ap refused_is g }
 
 pub record Accepted (M : Model) (b : Results) (x : Working) (s : Shape) : Type 0 where
@@ -104,7 +104,10 @@ accept {M} {b} {x} e p v r t i f =
       scalars = record { vars = v ∙ sym (lengths_agree M (accepted M (lengths b x) e.table).lengths).lower; rows = r; terms = t; mip = i; feas = f };
     }
 
-module _ {M : Model} {b : Results} {x : Working} {s : Shape} (a : Accepted M b x s) where
+module _ (i : Input) {b : Results} {x : Working} {s : Shape} (a : Accepted (input_model i) b x s) where
+  abbrev M : Model
+  M = input_model i
+
   call : Call M s
   call = call_of M (lengths b x) s a.table a.params a.scalars
 
@@ -112,10 +115,10 @@ module _ {M : Model} {b : Results} {x : Working} {s : Shape} (a : Accepted M b x
   room = room_of M (lengths b x) s a.table a.scalars
 
   abbrev Here : Model → Type 0
-  Here = Called M.obj M.lower M.upper M.domain M.int_tol M.starts M.index M.coeff M.cmp M.rhs M.mode
+  Here = Called i
 
   abbrev Rows : Model → Type 0
-  Rows = answered.Given M.lower M.upper M.starts M.index M.coeff M.cmp M.rhs
+  Rows = answered.Given i
 
   called : Here M
   called = record {
@@ -156,7 +159,7 @@ module _ {M : Model} {b : Results} {x : Working} {s : Shape} (a : Accepted M b x
         term_coeff = room.term_coeff;
       }
 
-  pub ready_results : {f : Floats} {n : Numbers} → Reduces Here s f n Next → Ready Rows s f n
+  pub ready_results : {f : Floats} {n : Numbers} → Reduces Here s f n (Ok tt) → Ready Rows s f n
   ready_results r =
       let g = settled_is (r.does M called call) in
       record {
@@ -178,7 +181,7 @@ module _ {M : Model} {b : Results} {x : Working} {s : Shape} (a : Accepted M b x
   fit = counts_fit M s call
 
   -- infeasible
-  pub promise_stopped : {f : Floats} {n : Numbers} {z : Answer} {x' : Working} → Reduces Here s f n Stop → answer_is z ≡ infeasible (counts_of n) → x' ≡ working_after none x → Promise M b x z b x'
+  pub promise_stopped : {e₀ : Infeasible} {f : Floats} {n : Numbers} {z : Presolved} {x' : Working} → Reduces Here s f n (Err e₀) → presolved_is z ≡ infeasible (counts_of n) → x' ≡ working_after none x → Promise M b x (Ok z) b x'
   unfolding outcome results_after
   promise_stopped {n = n} r o w =
       let g = ended_is (r.does M called call) in
@@ -190,7 +193,7 @@ module _ {M : Model} {b : Results} {x : Working} {s : Shape} (a : Accepted M b x
       }
 
   -- a model
-  pub promise_done : {f : Floats} {n : Numbers} {z : Answer} {b' : Results} {x' : Working} → Reduces Here s f n Next → Finished Rows s f n z b b' → x' ≡ working_after none x → Promise M b x z b' x'
+  pub promise_done : {f : Floats} {n : Numbers} {z : Presolved} {b' : Results} {x' : Working} → Reduces Here s f n (Ok tt) → Finished Rows s f n z b b' → x' ≡ working_after none x → Promise M b x (Ok z) b' x'
   unfolding outcome results_after
   promise_done r h w =
       let u = h.reduced in

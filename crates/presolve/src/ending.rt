@@ -3,101 +3,54 @@ ghost use Rattle.std.specs.Prelude.{◌≡◌};
 ghost use Rattle.std.proofs.Math.Option.{none};
 ghost use Rattle.space.specs.Store.{floats_of, numbers_of, HoldsF, HoldsN};
 ghost use Rattle.view.specs.Acts.{Ready};
-ghost use Rattle.output.specs.Results.{results, Room};
+ghost use Rattle.output.specs.Results.{held, SameSlices, Room};
 ghost use Rattle.output.specs.Summary.{counts_of};
 ghost use Rattle.output.specs.Answered.{Given};
-ghost use Rattle.presolve.specs.Promise.{working, infeasible, answer_is, working_after};
+ghost use Rattle.presolve.specs.Promise.{working_of, SameSpace, infeasible, presolved_is, working_after};
 ghost use Rattle.presolve.specs.Steps.{Finished};
 
-use crate::Answer;
+use crate::{Presolved, Space};
+use definition::Input;
+use output::Results;
 use space::Shape;
 
 // Zeros over the whole lent lengths.
-fn clear(floats: &mut [f64], numbers: &mut [usize], adjacency: &mut [usize])
-    ensures { (working floats.new numbers.new adjacency.new) ≡ working_after none
-        (working floats.old numbers.old adjacency.old) }
+fn clear(space: &mut Space)
+    ensures same { SameSpace space.old space.new }
+    ensures zeros { working_of space.new ≡ working_after none (working_of space.old) }
 {
-    zeros::clear_floats(floats);
-    zeros::clear_numbers(numbers);
-    zeros::clear_numbers(adjacency);
+    zeros::clear(space.floats, space.numbers, space.adjacency);
 }
 
 // Infeasible, with the counts reached.
-pub(crate) fn stopped(
-    floats: &mut [f64],
-    numbers: &mut [usize],
-    adjacency: &mut [usize],
-    s: Shape,
-) -> Answer
-    requires { HoldsN s numbers.old }
-    ensures result_value { answer_is result ≡ infeasible (counts_of (numbers_of s numbers.old)) }
-    ensures adjacency_after { (working floats.new numbers.new adjacency.new) ≡ working_after none
-        (working floats.old numbers.old adjacency.old) }
+pub(crate) fn stopped(space: &mut Space, s: Shape) -> Presolved
+    requires { HoldsN s space.old.numbers.now }
+    ensures result_value { presolved_is result ≡ infeasible (counts_of (numbers_of s space.old.numbers.now)) }
+    ensures same { SameSpace space.old space.new }
+    ensures zeros { working_of space.new ≡ working_after none (working_of space.old) }
 {
-    let k = output::read_counts(numbers, s);
-    clear(floats, numbers, adjacency);
-    Answer::Infeasible(k)
+    let counts = output::read_counts(space.numbers, s);
+    clear(space);
+    Presolved::Infeasible(counts)
 }
 
 // A model, which is written to the result slices.
 pub(crate) fn finished(
-    lower: &[f64],
-    upper: &[f64],
-    starts: &[usize],
-    index: &[usize],
-    coeff: &[f64],
-    cmp: &[u8],
-    rhs: &[f64],
+    input: Input,
     s: Shape,
-    out_lower: &mut [f64],
-    out_upper: &mut [f64],
-    emit_row: &mut [usize],
-    emit_rewritten: &mut [u8],
-    emit_rhs: &mut [f64],
-    emit_from: &mut [usize],
-    emit_upto: &mut [usize],
-    kept: &mut [usize],
-    term_index: &mut [usize],
-    term_coeff: &mut [f64],
-    floats: &mut [f64],
-    numbers: &mut [usize],
-    adjacency: &mut [usize],
-) -> Answer
-    requires holds_f { HoldsF s floats.old × HoldsN s numbers.old }
-    requires room { Room s (results out_lower.old out_upper.old emit_row.old emit_rewritten.old emit_rhs.old emit_from.old
-        emit_upto.old kept.old term_index.old term_coeff.old) }
-    requires ready { Ready (Given lower.now upper.now starts.now index.now coeff.now cmp.now rhs.now) s (floats_of s floats.old) (numbers_of s numbers.old) }
-    ensures finished { Finished (Given lower.now upper.now starts.now index.now coeff.now
-        cmp.now rhs.now) s (floats_of s floats.old) (numbers_of s numbers.old) result
-        (results out_lower.old out_upper.old emit_row.old emit_rewritten.old emit_rhs.old
-        emit_from.old emit_upto.old kept.old term_index.old term_coeff.old)
-        (results out_lower.new out_upper.new emit_row.new emit_rewritten.new emit_rhs.new
-        emit_from.new emit_upto.new kept.new term_index.new term_coeff.new) }
-    ensures adjacency_after { (working floats.new numbers.new adjacency.new) ≡ working_after none
-        (working floats.old numbers.old adjacency.old) }
+    results: &mut Results,
+    space: &mut Space,
+) -> Presolved
+    requires holds_f { HoldsF s space.old.floats.now × HoldsN s space.old.numbers.now }
+    requires room { Room s (held results.old) }
+    requires ready { Ready (Given input) s (floats_of s space.old.floats.now) (numbers_of s space.old.numbers.now) }
+    ensures same_results { SameSlices results.old results.new }
+    ensures same_space { SameSpace space.old space.new }
+    ensures finished { Finished (Given input.entry) s (floats_of s space.old.floats.now) (numbers_of s space.old.numbers.now)
+        result (held results.old) (held results.new) }
+    ensures zeros { working_of space.new ≡ working_after none (working_of space.old) }
 {
-    let r = output::write_results(
-        lower,
-        upper,
-        starts,
-        index,
-        coeff,
-        cmp,
-        rhs,
-        floats,
-        numbers,
-        s,
-        out_lower,
-        out_upper,
-        emit_row,
-        emit_rewritten,
-        emit_rhs,
-        emit_from,
-        emit_upto,
-        kept,
-        term_index,
-        term_coeff,
-    );
-    clear(floats, numbers, adjacency);
-    Answer::Presolved(r)
+    let reduced = output::write_results(input, space.floats, space.numbers, s, results);
+    clear(space);
+    Presolved::Model(reduced)
 }

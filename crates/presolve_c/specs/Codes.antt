@@ -48,7 +48,7 @@ numbered_table M L =
     (numbered_choice 9 _ (omega arith) (omega arith)
     (numbered_choice 10 _ (omega arith) (omega arith) numbered_none)))))))))
 
-numbered : (M : Model) (L : Lent) (n : ℕ) → Numbered (face_refusal M L n)
+pub numbered : (M : Model) (L : Lent) (n : ℕ) → Numbered (face_refusal M L n)
 unfolding face_refusal short_answer
 numbered M L n = numbered_else (refusal M L) (numbered_table M L) (numbered_choice 10 (ltb n 9) (omega arith) (omega arith) numbered_none)
 

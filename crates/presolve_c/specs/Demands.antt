@@ -1,29 +1,63 @@
 -- 01's DEMANDS HOLD OF A CALL FROM C OR RUST TOO: where the answer's slice has its nine entries, such a call is a call of presolve, with the same answer and the same
 -- slices before and after it. So everything in presolve's specs/Demands holds of it.
-use Rattle.std.specs.Prelude.{ℕ, ◌≤◌, ◌≡◌, refl, List, length}
-use Rattle.std.proofs.Common.{ap, sym, ◌∙◌, subst}
-use Rattle.std.proofs.Math.Option.{Option}
+use Rattle.std.specs.Prelude.{ℕ, zero, suc, ◌≤◌, ◌≡◌, refl, List, length, Ok, Err}
+use Rattle.std.proofs.Common.{arith, ap, sym, ◌∙◌, subst}
+use Rattle.std.proofs.Math.Option.{Option, none, some}
+use Rattle.definition.specs.Model as definition
 use Rattle.definition.specs.Model.{Model}
 use Rattle.definition.specs.Presolve.{presolve}
 use Rattle.definition.specs.Refusal.{refusal}
 use Rattle.output.specs.Results.{Results}
-use Rattle.presolve.specs.declared.Answer.{Answer}
-use Rattle.presolve.specs.declared.Answer.TheVariants.{Refused, Infeasible, Presolved}
-use Rattle.presolve.specs.Promise.{Working, lengths, Outcome, refused, infeasible, presolved, answer_is, outcome, results_after, working_after, Promise}
+use Rattle.refuse.specs.declared.Refusal.{Refusal}
+use Rattle.refuse.specs.declared.Refusal.TheVariants.{LengthsDisagree, TooLarge, StartsWrong, IndicesWrong, CodesWrong, BoundsWrong, NumbersWrong, RhsesWrong, TolerancesWrong, TooShort}
+use Rattle.refuse.specs.Number.{number_of}
+use Rattle.presolve.specs.declared.Presolved.TheVariants as variants
+use Rattle.presolve.specs.Promise.{Working, lengths, Outcome, Answer, refused, infeasible, presolved, answer_is, outcome, results_after, working_after, Promise}
 use Rattle.presolve_c.specs.Face.{face_refusal, Told, FacePromise}
 use Rattle.presolve_c.specs.Steps.{long_is}
+use Rattle.presolve_c.specs.Codes.{Numbered, numbered}
+
+-- the row of the table that a number is
+unfoldable pub refusal_of : ℕ → Refusal
+refusal_of zero = LengthsDisagree
+refusal_of (suc zero) = LengthsDisagree
+refusal_of (suc (suc zero)) = TooLarge
+refusal_of (suc (suc (suc zero))) = StartsWrong
+refusal_of (suc (suc (suc (suc zero)))) = IndicesWrong
+refusal_of (suc (suc (suc (suc (suc zero))))) = CodesWrong
+refusal_of (suc (suc (suc (suc (suc (suc zero)))))) = BoundsWrong
+refusal_of (suc (suc (suc (suc (suc (suc (suc zero))))))) = NumbersWrong
+refusal_of (suc (suc (suc (suc (suc (suc (suc (suc zero)))))))) = RhsesWrong
+refusal_of (suc (suc (suc (suc (suc (suc (suc (suc (suc zero))))))))) = TolerancesWrong
+refusal_of (suc (suc (suc (suc (suc (suc (suc (suc (suc (suc n)))))))))) = TooShort
+
+number_is : (k : ℕ) → 1 ≤ k → k ≤ 10 → number_of (refusal_of k) ≡ k
+unfolding refusal_of
+number_is zero p q = absurd (omega (arith, p))
+number_is (suc zero) p q = refl
+number_is (suc (suc zero)) p q = refl
+number_is (suc (suc (suc zero))) p q = refl
+number_is (suc (suc (suc (suc zero)))) p q = refl
+number_is (suc (suc (suc (suc (suc zero))))) p q = refl
+number_is (suc (suc (suc (suc (suc (suc zero)))))) p q = refl
+number_is (suc (suc (suc (suc (suc (suc (suc zero))))))) p q = refl
+number_is (suc (suc (suc (suc (suc (suc (suc (suc zero)))))))) p q = refl
+number_is (suc (suc (suc (suc (suc (suc (suc (suc (suc zero))))))))) p q = refl
+number_is (suc (suc (suc (suc (suc (suc (suc (suc (suc (suc zero)))))))))) p q = refl
+number_is (suc (suc (suc (suc (suc (suc (suc (suc (suc (suc (suc n))))))))))) p q = absurd (omega (arith, q))
 
 -- each outcome is that of an answer
 unfoldable pub answer_of : Outcome → Answer
-answer_of (refused k) = Refused k
-answer_of (infeasible k) = Infeasible k
-answer_of (presolved k n t q g) = Presolved (record { counts = k; emitted = n; terms = t; kept = q; flag = g })
+answer_of (refused k) = Err (refusal_of k)
+answer_of (infeasible k) = Ok (variants.Infeasible k)
+answer_of (presolved k n t q g) = Ok (variants.Model (record { counts = k; emitted = n; terms = t; kept = q; flag = g }))
 
-is_answer_of : (o : Outcome) → answer_is (answer_of o) ≡ o
-unfolding answer_of
-is_answer_of (refused k) = refl
-is_answer_of (infeasible k) = refl
-is_answer_of (presolved k n t q g) = refl
+-- where a refusal's number is one of the table's
+is_answer_of : (r : Option ℕ) (a : definition.Answer) → Numbered r → answer_is (answer_of (outcome r a)) ≡ outcome r a
+unfolding outcome answer_of
+is_answer_of (some k) a n = let m = n.is k refl in ap refused (number_is k m.0 m.1)
+is_answer_of none (definition.infeasible k) n = refl
+is_answer_of none (definition.done x) n = refl
 
 -- the call of presolve that a call with the code z and the numbers ans' is: its answer, the promise that it keeps, and that z and ans' tell this answer
 pub record IsCall (M : Model) (b : Results) (x : Working) (ans : List ℕ) (z : ℕ) (b' : Results) (x' : Working) (ans' : List ℕ) : Type 0 where
@@ -35,13 +69,14 @@ pub face_is_call : {M : Model} {b b' : Results} {x x' : Working} {ans ans' : Lis
 face_is_call {M} {b} {b'} {x} {x'} {ans} {ans'} {z} p n =
     let r : face_refusal M (lengths b x) (length ans) ≡ refusal M (lengths b x) = long_is M (lengths b x) (length ans) n in
     let o = outcome (face_refusal M (lengths b x) (length ans)) (presolve M) in
+    let e : answer_is (answer_of o) ≡ o = is_answer_of (face_refusal M (lengths b x) (length ans)) (presolve M) (numbered M (lengths b x) (length ans)) in
     record {
       answer = answer_of o;
       promise =
           record {
-            answer = is_answer_of o ∙ ap (λ (u : Option ℕ). outcome u (presolve M)) r;
+            answer = e ∙ ap (λ (u : Option ℕ). outcome u (presolve M)) r;
             results = p.results ∙ ap (λ (u : Option ℕ). results_after u (presolve M) b) r;
             working = p.working ∙ ap (λ (u : Option ℕ). working_after u x) r;
           };
-      told = subst (λ (u : Outcome). Told u ans z ans') (sym (is_answer_of o)) (record { code = p.code; answer = p.answer });
+      told = subst (λ (u : Outcome). Told u ans z ans') (sym e) (record { code = p.code; answer = p.answer });
     }

@@ -1,21 +1,23 @@
 -- The numbers one by one, and the promise from what presolve promises.
-use Rattle.std.specs.Prelude.{ℕ, ◌≤◌, ◌<◌, ◌≡◌, refl, Bool, List, [], ◌∷◌, length, set}
+use Rattle.std.specs.Prelude.{ℕ, ◌≤◌, ◌<◌, ◌≡◌, refl, Bool, true, false, List, [], ◌∷◌, length, set, Float, ⊤, Result, Ok, Err}
 use Rattle.std.proofs.Common.{arith, ap, sym, ◌∙◌, subst, lt-ltb, le-ltb}
+use Rattle.std.specs.Int.{from_bool}
 use Rattle.std.proofs.Math.Option.{Option, none, some}
+use Rattle.floats.specs.Num.{choose}
 use Rattle.definition.specs.declared.Counts.{Counts}
 use Rattle.definition.specs.Model.{Model}
 use Rattle.definition.specs.Presolve.{presolve}
 use Rattle.definition.specs.Refusal.{Lent, refusal}
 use Rattle.view.specs.Lists.{yes, no}
-use Rattle.refuse.specs.declared.Refusal as refuse
-use Rattle.refuse.specs.declared.Refusal.TheVariants.{Accepted, Number}
+use Rattle.refuse.specs.declared.Refusal.{Refusal}
+use Rattle.refuse.specs.Number.{number_of}
 use Rattle.refuse.specs.Of.{refused_is}
 use Rattle.emit.specs.Filling.{over, over_set}
 use Rattle.output.specs.declared.Reduced.{Reduced}
-use Rattle.output.specs.Results.{Results}
-use Rattle.presolve.specs.declared.Answer.{Answer}
-use Rattle.presolve.specs.declared.Answer.TheVariants.{Refused, Infeasible, Presolved}
-use Rattle.presolve.specs.Promise.{Working, lengths, Outcome, answer_is, outcome, results_after, working_after, Promise}
+use Rattle.output.specs.Results.{Results, results}
+use Rattle.presolve.specs.declared.Presolved.{Presolved}
+use Rattle.presolve.specs.declared.Presolved.TheVariants as variants
+use Rattle.presolve.specs.Promise.{Working, working, lengths, Outcome, Answer, answer_is, outcome, results_after, working_after, Promise}
 use Rattle.presolve_c.specs.Face.{or_else, short_answer, face_refusal, code_of, flag_number, five_of, nine_of, numbers_of, Told, FacePromise}
 
 -- ---- the numbers, from the front
@@ -48,26 +50,31 @@ put_nine k n t q f old {g} {five} i p e =
     ∙ over_set (a ∷ b ∷ c ∷ d ∷ h ∷ n ∷ t ∷ q ∷ []) old g (omega (arith, p))
     ∙ ap (λ (u : ℕ). over (nine_of k n t q u) old) i
 
+pub flag_is : (g : Bool) → from_bool g ≡ flag_number g
+unfolding flag_number choose
+flag_is true = refl
+flag_is false = refl
+
 -- ---- tell, by the answer
-pub told_refused : {a : Answer} {k : ℕ} {ans : List ℕ} → a ≡ Refused k → Told (answer_is a) ans k ans
+pub told_refused : {a : Answer} {k : Refusal} {z : ℕ} {ans : List ℕ} → a ≡ Err k → z ≡ number_of k → Told (answer_is a) ans z ans
 unfolding code_of numbers_of
-told_refused {k = k} {ans} e = subst (λ (y : Answer). Told (answer_is y) ans k ans) (sym e) (record { code = refl; answer = refl })
+told_refused {z = z} {ans} e f = subst (λ (y : Answer). Told (answer_is y) ans z ans) (sym e) (record { code = f; answer = refl })
 
-pub told_infeasible : {a : Answer} {k : Counts} {ans ans' : List ℕ} → a ≡ Infeasible k → ans' ≡ over (five_of k) ans → Told (answer_is a) ans 100 ans'
+pub told_infeasible : {a : Answer} {y : Presolved} {k : Counts} {ans ans' : List ℕ} → a ≡ Ok y → y ≡ variants.Infeasible k → ans' ≡ over (five_of k) ans → Told (answer_is a) ans 100 ans'
 unfolding code_of numbers_of
-told_infeasible {ans = ans} {ans'} e f = subst (λ (y : Answer). Told (answer_is y) ans 100 ans') (sym e) (record { code = refl; answer = f })
+told_infeasible {ans = ans} {ans'} e i f = subst (λ (y : Answer). Told (answer_is y) ans 100 ans') (sym (e ∙ ap (λ (y : Presolved). Ok y) i)) (record { code = refl; answer = f })
 
-pub told_model : {a : Answer} {r : Reduced} {ans ans' : List ℕ} → a ≡ Presolved r
+pub told_model : {a : Answer} {y : Presolved} {r : Reduced} {ans ans' : List ℕ} → a ≡ Ok y → y ≡ variants.Model r
     → ans' ≡ over (nine_of r.counts r.emitted r.terms r.kept (flag_number r.flag)) ans → Told (answer_is a) ans 0 ans'
 unfolding code_of numbers_of
-told_model {ans = ans} {ans'} e f = subst (λ (y : Answer). Told (answer_is y) ans 0 ans') (sym e) (record { code = refl; answer = f })
+told_model {ans = ans} {ans'} e i f = subst (λ (y : Answer). Told (answer_is y) ans 0 ans') (sym (e ∙ ap (λ (y : Presolved). Ok y) i)) (record { code = refl; answer = f })
 
 -- ---- a slice of fewer than nine: the table's number, or else 10
-pub else_ten : {r : Option ℕ} {y : refuse.Refusal} → refused_is y ≡ r → y ≡ Accepted → or_else r (some 10) ≡ some 10
+pub else_ten : {r : Option ℕ} {y : Result ⊤ Refusal} {u : ⊤} → refused_is y ≡ r → y ≡ Ok u → or_else r (some 10) ≡ some 10
 unfolding or_else
 else_ten t g = ap (λ (o : Option ℕ). or_else o (some 10)) (sym t ∙ ap refused_is g)
 
-pub earlier : {r : Option ℕ} {y : refuse.Refusal} (k : ℕ) → refused_is y ≡ r → y ≡ Number k → or_else r (some 10) ≡ some k
+pub earlier : {r : Option ℕ} {y : Result ⊤ Refusal} (k : Refusal) → refused_is y ≡ r → y ≡ Err k → or_else r (some 10) ≡ some (number_of k)
 unfolding or_else
 earlier k t g = ap (λ (o : Option ℕ). or_else o (some 10)) (sym t ∙ ap refused_is g)
 
@@ -75,10 +82,11 @@ short_is : (M : Model) (L : Lent) (n : ℕ) → n < 9 → face_refusal M L n ≡
 unfolding face_refusal short_answer
 short_is M L n p = ap (or_else (refusal M L)) (yes _ _ (lt-ltb n 9 p))
 
-pub promise_short : {M : Model} {b : Results} {x : Working} {ans : List ℕ} (k : ℕ) → length ans < 9 → or_else (refusal M (lengths b x)) (some 10) ≡ some k → FacePromise M b x ans k b x ans
+pub promise_short : {M : Model} {b : Results} {x : Working} {ans : List ℕ} {L : Lent} (k : ℕ) → length ans < 9 → L ≡ lengths b x → or_else (refusal M L) (some 10) ≡ some k
+    → FacePromise M b x ans k b x ans
 unfolding outcome results_after working_after code_of numbers_of
-promise_short {M} {b} {x} {ans} k p e =
-    let r : some k ≡ face_refusal M (lengths b x) (length ans) = sym (short_is M (lengths b x) (length ans) p ∙ e) in
+promise_short {M} {b} {x} {ans} k p l e =
+    let r : some k ≡ face_refusal M (lengths b x) (length ans) = sym (short_is M (lengths b x) (length ans) p ∙ ap (λ (L : Lent). or_else (refusal M L) (some 10)) (sym l) ∙ e) in
     record {
       code = ap (λ (o : Option ℕ). code_of (outcome o (presolve M))) r;
       answer = ap (λ (o : Option ℕ). over (numbers_of (outcome o (presolve M))) ans) r;
@@ -107,3 +115,9 @@ promise_told {M} {b} {x = x} {ans = ans} n p t =
       results = p.results ∙ ap (λ (u : Option ℕ). results_after u (presolve M) b) r;
       working = p.working ∙ ap (λ (u : Option ℕ). working_after u x) r;
     }
+
+-- ---- the caller's slices, one by one
+pub promise_in : {M : Model} {b b' : Results} {x x' : Working} {ans ans' : List ℕ} {z : ℕ} {l u : List Float} {r m : List ℕ} {h : List Float} {g e k i : List ℕ} {c f : List Float} {n j : List ℕ}
+    → FacePromise M b x ans z b' x' ans' → l ≡ b'.lower → u ≡ b'.upper → r ≡ b'.emit_row → m ≡ b'.emit_rewritten → h ≡ b'.emit_rhs → g ≡ b'.emit_from → e ≡ b'.emit_upto
+    → k ≡ b'.kept → i ≡ b'.term_index → c ≡ b'.term_coeff → f ≡ x'.floats → n ≡ x'.numbers → j ≡ x'.adjacency → FacePromise M b x ans z (results l u r m h g e k i c) (working f n j) ans'
+promise_in p e1 e2 e3 e4 e5 e6 e7 e8 e9 e10 e11 e12 e13 = rw (e1, e2, e3, e4, e5, e6, e7, e8, e9, e10, e11, e12, e13) p

@@ -8,11 +8,15 @@ ghost use Rattle.std.specs.Prelude.{◌≡◌};
 ghost use Rattle.row_terms.specs.Place.{place_of};
 ghost use Rattle.presolve_c.specs.Face.{FacePromise, place};
 
-use refuse::Lent;
+use definition::{Input, Rows};
+use output::Results;
+use presolve::Space;
+use row_terms::Span;
 
 mod tell;
 
-// `presolve::presolve`, its answer as a code and numbers, which go to `answer`.
+// `presolve::presolve`, its answer as a code and numbers, which go to `answer`. All parameters are loose, as C
+// hands them in.
 #[unsafe(no_mangle)]
 pub extern "C" fn suedeonyx_presolve(
     obj: &[f64],
@@ -51,41 +55,25 @@ pub extern "C" fn suedeonyx_presolve(
         emit_from.new emit_upto.new kept.new term_index.new term_coeff.new)
         (working floats.new numbers.new adjacency.new) answer.new }
 {
-    if answer.len() < tell::ANSWER {
-        let lent = Lent {
-            lower: out_lower.len(),
-            upper: out_upper.len(),
-            emit_row: emit_row.len(),
-            emit_rewritten: emit_rewritten.len(),
-            emit_rhs: emit_rhs.len(),
-            emit_from: emit_from.len(),
-            emit_upto: emit_upto.len(),
-            kept: kept.len(),
-            term_index: term_index.len(),
-            term_coeff: term_coeff.len(),
-            floats: floats.len(),
-            numbers: numbers.len(),
-            adjacency: adjacency.len(),
-        };
-        return tell::short_answer(
-            obj, lower, upper, domain, starts, index, coeff, cmp, rhs, mode, feas, int_tol, lent,
-        );
-    }
-    let a = presolve::presolve(
+    let input = Input {
         obj,
         lower,
         upper,
         domain,
-        starts,
-        index,
-        coeff,
-        cmp,
-        rhs,
+        rows: Rows {
+            starts,
+            index,
+            coeff,
+            cmp,
+            rhs,
+        },
         mode,
         feas,
         int_tol,
-        out_lower,
-        out_upper,
+    };
+    let mut results = Results {
+        lower: out_lower,
+        upper: out_upper,
         emit_row,
         emit_rewritten,
         emit_rhs,
@@ -94,15 +82,20 @@ pub extern "C" fn suedeonyx_presolve(
         kept,
         term_index,
         term_coeff,
+    };
+    let mut space = Space {
         floats,
         numbers,
         adjacency,
-    );
-    tell::tell(a, answer)
+    };
+    if answer.len() < tell::ANSWER {
+        return tell::short_answer(input, presolve::lent_lengths(&results, &space));
+    }
+    tell::tell(presolve::presolve(input, &mut results, &mut space), answer)
 }
 
-// `row_terms::row_place`, for an emitted row's mark and span: 1 where its terms stand in term_index and term_coeff, 0 where in
-// index and coeff; count of them, from start on.
+// `row_terms::Span::place`, for an emitted row's mark and span: 1 where its terms stand in term_index and term_coeff, 0 where in
+// index and coeff; count of them, from start on. All parameters are loose, as C hands them in.
 #[unsafe(no_mangle)]
 pub extern "C" fn suedeonyx_row_terms<'a>(
     index: &'a [usize],
@@ -118,7 +111,7 @@ pub extern "C" fn suedeonyx_row_terms<'a>(
     ensures { place result start.new count.new
         ≡ place_of mark from upto index.now coeff.now term_index.now term_coeff.now }
 {
-    let p = row_terms::row_place(index, coeff, term_index, term_coeff, mark, from, upto);
+    let p = Span { mark, from, upto }.place(index, coeff, term_index, term_coeff);
     *start = p.start;
     *count = p.count;
     p.rewritten

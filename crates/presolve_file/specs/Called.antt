@@ -1,5 +1,5 @@
 -- A call's promise, as the text of its answer: the fronts that the answer uses are there, and what is printed of them is the text of the definition's answer.
-use Rattle.std.specs.Prelude.{ℕ, ◌≤◌, ◌≡◌, List, map, length, take, drop}
+use Rattle.std.specs.Prelude.{ℕ, ◌≤◌, ◌≡◌, List, map, length, take, drop, Result, Ok, Err}
 use Rattle.std.proofs.Common.{arith, ◌∙◌, subst, length-append}
 use Rattle.std.proofs.Math.Path.{refl, ap, sym}
 use Rattle.std.proofs.Math.Option.{Option, none, some}
@@ -15,8 +15,9 @@ use Rattle.row_terms.specs.RowMark.{mark}
 use Rattle.emit.specs.Filling.{over}
 use Rattle.output.specs.declared.Reduced.{Reduced}
 use Rattle.output.specs.Results.{Results, written}
-use Rattle.presolve.specs.declared.Answer.{Answer}
-use Rattle.presolve.specs.declared.Answer.TheVariants.{Refused, Infeasible, Presolved}
+use Rattle.refuse.specs.declared.Refusal.{Refusal}
+use Rattle.presolve.specs.declared.Presolved.{Presolved}
+use Rattle.presolve.specs.declared.Presolved.TheVariants as code
 use Rattle.presolve.specs.Promise.{Working, lengths, answer_is, outcome, results_after, Promise}
 use Rattle.print_result.specs.Text.{refused_line}
 use Rattle.presolve_file.specs.Whole.{space, reduced_text, infeasible_text, outcome_text, model_text}
@@ -98,7 +99,7 @@ module _ (x : Reduced) (lowers uppers : ℕ) (a : definition.Reduced) (b : Resul
 
 -- ---- the promise
 module _ (M : Model) (b : Results) where
-  sizes_of_lem : (a : definition.Reduced) (x : Reduced) → presolve M ≡ done a → answer_is (Presolved x) ≡ outcome none (done a) → Sizes x (length M.lower) (length M.upper) a
+  sizes_of_lem : (a : definition.Reduced) (x : Reduced) → presolve M ≡ done a → answer_is (Ok (code.Model x)) ≡ outcome none (done a) → Sizes x (length M.lower) (length M.upper) a
   unfolding outcome
   sizes_of_lem a x p e =
       let l = bounds_lengths M a p in
@@ -107,27 +108,27 @@ module _ (M : Model) (b : Results) where
   impossible : {A : Type 0} → ◌≡◌ {A = ℕ} 0 1 → A
   impossible e = absurd (omega (arith, e))
 
-  fronts_by : (r : Option ℕ) (a : definition.Answer) (z : Answer) → presolve M ≡ a → answer_is z ≡ outcome r a → CallFronts z (length M.lower) (length M.upper) (results_after r a b)
+  fronts_by : (r : Option ℕ) (a : definition.Answer) (z : Result Presolved Refusal) → presolve M ≡ a → answer_is z ≡ outcome r a → CallFronts z (length M.lower) (length M.upper) (results_after r a b)
   unfolding outcome results_after
-  fronts_by r a (Refused n) p e = tt
-  fronts_by r a (Infeasible k) p e = tt
-  fronts_by (some n) a (Presolved x) p e = impossible cc
-  fronts_by none (definition.infeasible k) (Presolved x) p e = impossible cc
-  fronts_by none (done a) (Presolved x) p e = fronts_there x _ _ a b (sizes_of_lem a x p e)
+  fronts_by r a (Err x) p e = tt
+  fronts_by r a (Ok (code.Infeasible k)) p e = tt
+  fronts_by (some n) a (Ok (code.Model x)) p e = impossible cc
+  fronts_by none (definition.infeasible k) (Ok (code.Model x)) p e = impossible cc
+  fronts_by none (done a) (Ok (code.Model x)) p e = fronts_there x _ _ a b (sizes_of_lem a x p e)
 
-  text_by : (r : Option ℕ) (a : definition.Answer) (z : Answer) → presolve M ≡ a → answer_is z ≡ outcome r a → call_text z (length M.lower) (length M.upper) (results_after r a b) ≡ outcome_text r a
+  text_by : (r : Option ℕ) (a : definition.Answer) (z : Result Presolved Refusal) → presolve M ≡ a → answer_is z ≡ outcome r a → call_text z (length M.lower) (length M.upper) (results_after r a b) ≡ outcome_text r a
   unfolding outcome results_after call_text outcome_text
-  text_by (some m) a (Refused n) p e = ap refused_line cc
-  text_by (some m) a (Infeasible k) p e = impossible cc
-  text_by (some m) a (Presolved x) p e = impossible cc
-  text_by none (definition.infeasible k) (Refused n) p e = impossible cc
-  text_by none (definition.infeasible k) (Infeasible m) p e = ap infeasible_text cc
-  text_by none (definition.infeasible k) (Presolved x) p e = impossible cc
-  text_by none (done a) (Refused n) p e = impossible cc
-  text_by none (done a) (Infeasible m) p e = impossible cc
-  text_by none (done a) (Presolved x) p e = fronts_are x _ _ a b (sizes_of_lem a x p e)
+  text_by (some m) a (Err x) p e = ap refused_line cc
+  text_by (some m) a (Ok (code.Infeasible k)) p e = impossible cc
+  text_by (some m) a (Ok (code.Model x)) p e = impossible cc
+  text_by none (definition.infeasible k) (Err x) p e = impossible cc
+  text_by none (definition.infeasible k) (Ok (code.Infeasible m)) p e = ap infeasible_text cc
+  text_by none (definition.infeasible k) (Ok (code.Model x)) p e = impossible cc
+  text_by none (done a) (Err x) p e = impossible cc
+  text_by none (done a) (Ok (code.Infeasible m)) p e = impossible cc
+  text_by none (done a) (Ok (code.Model x)) p e = fronts_are x _ _ a b (sizes_of_lem a x p e)
 
-module _ {M : Model} {b : Results} {x : Working} {z : Answer} {b' : Results} {x' : Working} (q : Promise M b x z b' x') where
+module _ {M : Model} {b : Results} {x : Working} {z : Result Presolved Refusal} {b' : Results} {x' : Working} (q : Promise M b x z b' x') where
   pub called_fronts : CallFronts z (length M.lower) (length M.upper) b'
   called_fronts = subst (λ (y : Results). CallFronts z (length M.lower) (length M.upper) y) (sym q.results) (fronts_by M b (refusal M (lengths b x)) (presolve M) z refl q.answer)
 

@@ -1,4 +1,4 @@
--- What the reader leaves in arrays that every file fits in: a refusal, or the model at their front. Either way the text is the file's.
+-- What the reader leaves in arrays that every file fits in: a refusal, or the model at their front. Either way what is told of it is told of the file.
 use Rattle.std.specs.Prelude.{ℕ, ◌+◌, ◌≤◌, true, List, ◌++◌, length, take, drop}
 use Rattle.std.proofs.Common.{arith, sym, ◌∙◌, le-leb, length-append}
 use Rattle.std.proofs.Math.Path.{◌≡◌, refl, ap}
@@ -7,11 +7,10 @@ use Rattle.floats.specs.Num.{choose}
 use Rattle.definition.specs.Model.{Model}
 use Rattle.refuse.specs.Of.{model_of}
 use Rattle.model_file.specs.declared.Header.{Header}
-use Rattle.model_file.specs.declared.FileRead.{FileRead}
 use Rattle.model_file.specs.Format.{Lists, Decoded, refusal, file, decode}
-use Rattle.model_file.specs.Reading.{Slices, over, filled, room, room_vars, room_rows, header_of, Out, out, into, read_into}
+use Rattle.model_file.specs.Reading.{FileRead, Slices, over, filled, room, room_vars, room_rows, header_of, Out, out, into, read_into}
 use Rattle.print_result.specs.Text.{refused_line}
-use Rattle.presolve_file.specs.Whole.{model_text, model_in, decoded_text, file_text}
+use Rattle.presolve_file.specs.Whole.{model_in, told}
 use Rattle.presolve_file.specs.Small.{Small, small}
 
 -- ---- arrays that every file fits in
@@ -109,48 +108,15 @@ module _ (f : Lists) (l : Slices) (s : Small f) where
 pub data Is (M : Model) : Decoded → Type 0 where
   is_file : {f : Lists} → M ≡ model_in f → Is M (file f)
 
+is_told : (t : Model → List ℕ) {M : Model} (d : Decoded) → Is M d → t M ≡ told t d
+is_told t (file f) (is_file e) = ap t e
+is_told t (refusal n) x = elim x [ ]
+
 -- ---- what is read
 into_file : (f : Lists) (l : Slices) → Wide l → Small f → into (file f) l ≡ out (FileRead.Model (header_of f)) (filled f l)
 unfolding into choose
 into_file f l w s = rw (roomy f l w s)
 
-module _ (s : List ℕ) (l : Slices) (w : Wide l) where
-  refused_by : (d : Decoded) {n : ℕ} {l' : Slices} → decode s ≡ d → out (FileRead.Refused n) l' ≡ into d l → refused_line n ≡ decoded_text d
-  unfolding decoded_text into
-  refused_by (refusal m) {n} p e = let y : FileRead.Refused n ≡ FileRead.Refused m = ap (λ (o : Out). o.answer) e in ap refused_line cc
-  refused_by (file f) {n} p e =
-      absurd
-      (let y : FileRead.Refused n ≡ FileRead.Model (header_of f) = ap (λ (o : Out). o.answer) (e ∙ into_file f l w (small s f p)) in
-      let z : ◌≡◌ {A = ℕ} 0 1 = cc in omega arith)
-
-  model_by : (d : Decoded) {h : Header} {l' : Slices} → decode s ≡ d → out (FileRead.Model h) l' ≡ into d l → Held h l' × (model_text (front_model h l') ≡ decoded_text d)
-  unfolding decoded_text into
-  model_by (refusal m) {h} p e = absurd (let y : FileRead.Model h ≡ FileRead.Refused m = ap (λ (o : Out). o.answer) e in let z : ◌≡◌ {A = ℕ} 0 1 = cc in omega arith)
-  model_by (file f) {h} {l'} p e =
-      let y = e ∙ into_file f l w (small s f p) in
-      let x : FileRead.Model h ≡ FileRead.Model (header_of f) = ap (λ (o : Out). o.answer) y in
-      let a : h ≡ header_of f = cc in
-      let b : l' ≡ filled f l = ap (λ (o : Out). o.lent) y in
-      rw (a, b) (held f l (small s f p), ap model_text (front_is f l (small s f p)))
-
--- r is what the reader answered, l and l' are the arrays before and after it
-module _ (s : List ℕ) (l : Slices) {r : FileRead} {l' : Slices} (e : out r l' ≡ read_into s l) (w : Wide l) where
-  pub read_refused : {n : ℕ} → r ≡ FileRead.Refused n → refused_line n ≡ file_text s
-  unfolding file_text read_into
-  read_refused q = refused_by s l w (decode s) refl (ap (λ (x : FileRead). out x l') (sym q) ∙ e)
-
-  module _ {h : Header} (q : r ≡ FileRead.Model h) where
-    read_model : Held h l' × (model_text (front_model h l') ≡ file_text s)
-    unfolding file_text read_into
-    read_model = model_by s l w (decode s) refl (ap (λ (x : FileRead). out x l') (sym q) ∙ e)
-
-    pub read_held : Held h l'
-    read_held = read_model.0
-
-    pub read_text : model_text (front_model h l') ≡ file_text s
-    read_text = read_model.1
-
--- the same by what the file is, for other texts of it
 module _ (s : List ℕ) (l : Slices) (w : Wide l) where
   number_by : (d : Decoded) {n : ℕ} {l' : Slices} → decode s ≡ d → out (FileRead.Refused n) l' ≡ into d l → d ≡ refusal n
   unfolding into
@@ -160,7 +126,7 @@ module _ (s : List ℕ) (l : Slices) (w : Wide l) where
       (let y : FileRead.Refused n ≡ FileRead.Model (header_of f) = ap (λ (o : Out). o.answer) (e ∙ into_file f l w (small s f p)) in
       let z : ◌≡◌ {A = ℕ} 0 1 = cc in omega arith)
 
-  lists_by : (d : Decoded) {h : Header} {l' : Slices} → decode s ≡ d → out (FileRead.Model h) l' ≡ into d l → Is (front_model h l') d
+  lists_by : (d : Decoded) {h : Header} {l' : Slices} → decode s ≡ d → out (FileRead.Model h) l' ≡ into d l → Held h l' × Is (front_model h l') d
   unfolding into
   lists_by (refusal m) {h} p e = absurd (let y : FileRead.Model h ≡ FileRead.Refused m = ap (λ (o : Out). o.answer) e in let z : ◌≡◌ {A = ℕ} 0 1 = cc in omega arith)
   lists_by (file f) {h} {l'} p e =
@@ -168,12 +134,28 @@ module _ (s : List ℕ) (l : Slices) (w : Wide l) where
       let x : FileRead.Model h ≡ FileRead.Model (header_of f) = ap (λ (o : Out). o.answer) y in
       let a : h ≡ header_of f = cc in
       let b : l' ≡ filled f l = ap (λ (o : Out). o.lent) y in
-      is_file {f = f} (rw (a, b) (front_is f l (small s f p)))
+      rw (a, b) (held f l (small s f p), is_file {f = f} (front_is f l (small s f p)))
 
-  pub refused_number : {n : ℕ} {r : FileRead} {l' : Slices} → out r l' ≡ read_into s l → r ≡ FileRead.Refused n → decode s ≡ refusal n
+-- r is what the reader answered, l and l' are the arrays before and after it
+module _ (s : List ℕ) (l : Slices) (w : Wide l) {r : FileRead} {l' : Slices} (e : out r l' ≡ read_into s l) where
+  pub refused_number : {n : ℕ} → r ≡ FileRead.Refused n → decode s ≡ refusal n
   unfolding read_into
-  refused_number {l' = l'} e q = number_by (decode s) refl (ap (λ (x : FileRead). out x l') (sym q) ∙ e)
+  refused_number q = number_by s l w (decode s) refl (ap (λ (x : FileRead). out x l') (sym q) ∙ e)
 
-  pub read_lists : {h : Header} {r : FileRead} {l' : Slices} → out r l' ≡ read_into s l → r ≡ FileRead.Model h → Is (front_model h l') (decode s)
+  read_model : {h : Header} → r ≡ FileRead.Model h → Held h l' × Is (front_model h l') (decode s)
   unfolding read_into
-  read_lists {l' = l'} e q = lists_by (decode s) refl (ap (λ (x : FileRead). out x l') (sym q) ∙ e)
+  read_model q = lists_by s l w (decode s) refl (ap (λ (x : FileRead). out x l') (sym q) ∙ e)
+
+  pub read_held : {h : Header} → r ≡ FileRead.Model h → Held h l'
+  read_held q = (read_model q).0
+
+  pub read_lists : {h : Header} → r ≡ FileRead.Model h → Is (front_model h l') (decode s)
+  read_lists q = (read_model q).1
+
+  -- what is told of it, by any text t of a model
+  module _ (t : Model → List ℕ) where
+    pub read_refused : {n : ℕ} → r ≡ FileRead.Refused n → refused_line n ≡ told t (decode s)
+    read_refused q = sym (ap (told t) (refused_number q))
+
+    pub read_text : {h : Header} → r ≡ FileRead.Model h → t (front_model h l') ≡ told t (decode s)
+    read_text q = is_told t (decode s) (read_lists q)

@@ -24,7 +24,7 @@ use Rattle.model_file.specs.Format.{Lists, Decoded, refusal, file, decode}
 use Rattle.print_result.specs.declared.Kind.{Kind}
 use Rattle.print_result.specs.Text.{row_text, row_texts}
 use Rattle.print_result.specs.Lengths.{CountsBelow, answer_line_length, counts_line_length, refused_line_length, Short, written_length, rewritten_length, rows_none, rows_cons, answer_length}
-use Rattle.presolve_file.specs.Whole.{counts_of, kind_of, reduced_text, infeasible_text, outcome_text, space, model_text, model_in, decoded_text, file_text}
+use Rattle.presolve_file.specs.Whole.{kind_of, reduced_text, infeasible_text, outcome_text, space, model_text, model_in, decoded_text, file_text}
 use Rattle.presolve_file.specs.Small.{Small, small}
 use Rattle.presolve_file.specs.Numbers.{all_at, spans_of_lem}
 use Rattle.presolve_file.specs.Refusals.{reader_numbers, table_numbers}
@@ -75,14 +75,14 @@ module _ (index : List ℕ) (coeff : List Float) where
       omega (arith, entries_cons e es, w, b, entries_length v c (λ i. h (suc i)))
 
 -- ---- an answer, by its sizes
-pub answer_text_length : (R : Reduced) → CountsBelow (counts_of R.counts) → length R.lower ≤ 1000 → Short (rows_of R.emitted) → Short (vars_of R.terms)
+pub answer_text_length : (R : Reduced) → CountsBelow R.counts → length R.lower ≤ 1000 → Short (rows_of R.emitted) → Short (vars_of R.terms)
     → Consecutive (length R.terms) 0 R.emitted → Short R.kept
     → length (reduced_text R) ≤ 130 + length R.lower * 44 + (length R.emitted * 36 + length R.terms * 26) + length R.kept * 13
 unfolding reduced_text
 answer_text_length R c v r t s k =
     let l : length (entries_text (vars_of R.terms) (coeffs_of R.terms) R.emitted) ≤ length R.emitted * 36 + length R.terms * 26 =
     omega (arith, entries_length (vars_of R.terms) (coeffs_of R.terms) t s r) in
-    answer_length (kind_of R.flag) (counts_of R.counts) (length R.lower) R.lower R.upper (length R.emitted) _ _ _ _ _ (vars_of R.terms)
+    answer_length (kind_of R.flag) R.counts (length R.lower) R.lower R.upper (length R.emitted) _ _ _ _ _ (vars_of R.terms)
     (coeffs_of R.terms) (length R.kept) R.kept _ c v k l
 
 -- ---- a model of the file's sizes that the table passes
@@ -103,18 +103,18 @@ module _ (M : Model) (S : Sized M) (e : call.refusal M space ≡ none) where
   waves_30 : max_waves M.params ≤ 30
   waves_30 = subst (λ (p : Params). max_waves p ≤ 30) (sym S.pars) (omega arith)
 
-  counts_below : {k : Counts} → CountsFit k → k.passes ≤ max_waves M.params → CountsBelow (counts_of k)
+  counts_below : {k : Counts} → CountsFit k → k.passes ≤ max_waves M.params → CountsBelow k
   counts_below f p = record { dropped = f.dropped; tightened = f.tightened; fixed = f.fixed; rewritten = f.rewrote; passes = omega (arith, p, waves_30) }
 
   infeasible_length : (k : Counts) → presolve M ≡ infeasible k → length (infeasible_text k) ≤ 130
   unfolding infeasible_text
   infeasible_length k p =
-      let c : CountsBelow (counts_of k) = counts_below (fits_infeasible (subst Fits p (counts_fit M shape accepted_call))) (waves_bounded_infeasible M k p) in
-      simp length-append (omega (arith, answer_line_length Kind.Infeasible, counts_line_length (counts_of k) c))
+      let c : CountsBelow k = counts_below (fits_infeasible (subst Fits p (counts_fit M shape accepted_call))) (waves_bounded_infeasible M k p) in
+      simp length-append (omega (arith, answer_line_length Kind.Infeasible, counts_line_length k c))
 
   reduced_length : (R : Reduced) → presolve M ≡ done R → length (reduced_text R) ≤ 32768
   reduced_length R p =
-      let c : CountsBelow (counts_of R.counts) = counts_below (fits_done (subst Fits p (counts_fit M shape accepted_call))) (waves_bounded M R p) in
+      let c : CountsBelow R.counts = counts_below (fits_done (subst Fits p (counts_fit M shape accepted_call))) (waves_bounded M R p) in
       let below : All (λ (v : ℕ). v < 1000) M.index = all_at 0 M.index (λ k h. omega (arith, accepted_call.index k h, S.vars)) in
       let l =
       answer_text_length R c (omega (arith, (bounds_lengths M R p).0, S.vars)) (short_rows (omega (arith, S.rows)) (emitted_rising M R p))

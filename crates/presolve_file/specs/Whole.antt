@@ -12,13 +12,9 @@ use Rattle.emit.specs.Terms.{vars_of, coeffs_of}
 use Rattle.model_file.specs.Format.{Lists, Decoded, refusal, file, decode}
 use Rattle.model_file.specs.Longest.{first_bytes}
 use Rattle.print_result.specs.declared.Kind.{Kind}
-use Rattle.print_result.specs.declared.Counts as printed
 use Rattle.print_result.specs.Text.{answer_line, counts_line, answer_text, refused_line}
 
 -- ---- the text of an answer
-abbrev pub counts_of : Counts → printed.Counts
-counts_of k = record { rows_dropped = k.rowsDropped; bounds_tightened = k.boundsTightened; vars_fixed = k.varsFixed; coeffs_tightened = k.coeffsTightened; passes = k.passes }
-
 unfoldable pub kind_of : Bool → Kind
 kind_of true = Kind.Reduced
 kind_of false = Kind.Unchanged
@@ -27,7 +23,7 @@ unfoldable pub reduced_text : Reduced → List ℕ
 reduced_text a =
     answer_text
     (kind_of a.flag)
-    (counts_of a.counts)
+    a.counts
     (length a.lower)
     a.lower
     a.upper
@@ -44,7 +40,7 @@ reduced_text a =
 
 -- after an infeasible answer only the counts follow
 unfoldable pub infeasible_text : Counts → List ℕ
-infeasible_text k = answer_line Kind.Infeasible ++ counts_line (counts_of k)
+infeasible_text k = answer_line Kind.Infeasible ++ counts_line k
 
 unfoldable pub outcome_text : Option ℕ → Answer → List ℕ
 outcome_text (some n) a = refused_line n
@@ -77,9 +73,13 @@ model_text M = outcome_text (call.refusal M space) (presolve M)
 abbrev pub model_in : Lists → Model
 model_in f = model_of f.objective f.lower f.upper f.domain f.starts f.index f.coeff f.cmp f.rhs f.mode f.feasibility f.int_tol
 
+-- where t is the text of a model: what is printed of what the reader gets
+abbrev pub told : (Model → List ℕ) → Decoded → List ℕ
+told t (refusal n) = refused_line n
+told t (file f) = t (model_in f)
+
 unfoldable pub decoded_text : Decoded → List ℕ
-decoded_text (refusal n) = refused_line n
-decoded_text (file f) = model_text (model_in f)
+decoded_text d = told model_text d
 
 unfoldable pub file_text : List ℕ → List ℕ
 file_text s = decoded_text (decode s)

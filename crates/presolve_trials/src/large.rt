@@ -2,69 +2,102 @@
 // eight variables in turn; then one more of each. The lent slices are exactly as long as needed.
 ghost use Rattle.std.specs.Prelude.{◌≤◌};
 
-use crate::{either, lend};
+use crate::lend::{self, Packed};
 use std::io;
 
 // From a place on, every eighth entry is a, and the others are b.
 fn fill(s: &mut [f64], from: usize, a: f64, b: f64) {
     for (i, x) in s.iter_mut().enumerate().skip(from) {
-        *x = either::float(i % 8 == 0, a, b);
+        *x = if i % 8 == 0 { a } else { b };
     }
 }
 
-fn fill_codes(s: &mut [u8], from: usize, code: u8) {
-    for x in s.iter_mut().skip(from) {
-        *x = code;
-    }
-}
-
-fn starts(s: &mut [usize]) {
-    for (i, x) in s.iter_mut().enumerate() {
-        *x = 8 * i;
-    }
-}
-
-fn indices(s: &mut [usize], from: usize) {
-    for (i, x) in s.iter_mut().skip(from).enumerate() {
-        *x = i % 4096;
-    }
-}
-
-// Of each eight variables the first is 0 or 1, with coefficient a, and the others are 0 to upper,
-// with coefficient 1.
-fn model(
-    rt: &impl Print,
-    name: &str,
+// Of each eight variables the first is 0 or 1, with coefficient `first`, and the others are 0 to
+// `upper`, with coefficient 1.
+#[derive(Clone, Copy)]
+struct Large {
     vars: usize,
     rows: usize,
     terms: usize,
-    a: f64,
+    first: f64,
     upper: f64,
     cmp: u8,
     rhs: f64,
-) -> io::Result<()>
-    requires vars_bound { vars ≤ 4097 }
-    requires rows_bound { rows ≤ 8193 }
-    requires terms_bound { terms ≤ 65537 }
+}
+
+// All rows are Ge 8, and every coefficient and upper bound is 1.
+const FORCED: Large = Large {
+    vars: 4096,
+    rows: 8192,
+    terms: 65536,
+    first: 1.0,
+    upper: 1.0,
+    cmp: 2,
+    rhs: 8.0,
+};
+
+fn model(rt: &impl Print, name: &str, l: Large) -> io::Result<()>
+    requires vars_bound { l.vars ≤ 4097 }
+    requires rows_bound { l.rows ≤ 8193 }
+    requires terms_bound { l.terms ≤ 65537 }
 {
-    let mut f = [0.0; 86021];
-    let mut n = [0; 73731];
-    let mut c = [0; 12290];
-    fill(&mut f, 2 * vars, 1.0, upper);
-    fill(&mut f, 3 * vars, a, 1.0);
-    fill(&mut f, 3 * vars + terms, rhs, rhs);
-    starts(&mut n);
-    indices(&mut n, rows + 1);
-    fill_codes(&mut c, vars, cmp);
-    let mut p = lend::sized(vars, rows, terms, 1);
+    let mut floats = [0.0; 86021];
+    let mut numbers = [0; 73731];
+    let mut codes = [0; 12290];
+    fill(&mut floats, 2 * l.vars, 1.0, l.upper);
+    fill(&mut floats, 3 * l.vars, l.first, 1.0);
+    fill(&mut floats, 3 * l.vars + l.terms, l.rhs, l.rhs);
+    for (i, start) in numbers.iter_mut().enumerate() {
+        *start = 8 * i;
+    }
+    for (i, index) in numbers.iter_mut().skip(l.rows + 1).enumerate() {
+        *index = i % 4096;
+    }
+    for code in codes.iter_mut().skip(l.vars) {
+        *code = l.cmp;
+    }
+    let mut p = lend::sized(l.vars, l.rows, l.terms, 1);
     p.spare = 0;
-    lend::ask(rt, name, p, &f, &n, &c)
+    let m = Packed {
+        floats: &floats,
+        numbers: &numbers,
+        codes: &codes,
+    };
+    lend::ask(rt, name, p, m)
 }
 
 pub(crate) fn all(rt: &impl Print) -> io::Result<()> {
-    model(rt, "all forced", 4096, 8192, 65536, 1.0, 1.0, 2, 8.0)?;
-    model(rt, "all rewritten", 4096, 8192, 65536, 3.0, 8.0, 1, 57.0)?;
-    model(rt, "4097 variables", 4097, 8192, 65536, 1.0, 1.0, 2, 8.0)?;
-    model(rt, "8193 rows", 4096, 8193, 65536, 1.0, 1.0, 2, 8.0)?;
-    model(rt, "65537 terms", 4096, 8192, 65537, 1.0, 1.0, 2, 8.0)
+    model(rt, "all forced", FORCED)?;
+    let rewritten = Large {
+        first: 3.0,
+        upper: 8.0,
+        cmp: 1,
+        rhs: 57.0,
+        ..FORCED
+    };
+    model(rt, "all rewritten", rewritten)?;
+    model(
+        rt,
+        "4097 variables",
+        Large {
+            vars: 4097,
+            ..FORCED
+        },
+    )?;
+    model(
+        rt,
+        "8193 rows",
+        Large {
+            rows: 8193,
+            ..FORCED
+        },
+    )?;
+    model(
+        rt,
+        "65537 terms",
+        Large {
+            terms: 65537,
+            ..FORCED
+        },
+    )
 }

@@ -1,20 +1,33 @@
-// A call on a model that stands packed: in f objective, lower and upper bounds, coefficients and
-// right sides; in n row starts and indices; in c domains and comparisons.
-ghost use Rattle.std.specs.Prelude.{◌≡◌, ◌≤◌};
+// A call on a model, with lent slices that hold junk.
+ghost use Rattle.std.specs.Prelude.{◌≡◌, ◌≤◌, None};
 ghost use Rattle.std.specs.Float.{binary64, nan};
 ghost use Rattle.std.specs.Float.Ieee.{of_bits};
 
-use crate::{either, print};
-use presolve::Answer;
+use crate::print;
+use definition::{Input, Rows};
+use output::Results;
+use presolve::{Presolved, Space};
+use refuse::Refusal;
 use std::io;
+
+pub(crate) type Answer = Result<Presolved, Refusal>;
 
 // The junk that lent numbers and lent marks hold.
 pub(crate) const JUNK: usize = 18446744073709551615;
 
 const MARK: u8 = 165;
 
+// A model that stands packed: in `floats` objective, lower and upper bounds, coefficients and right
+// sides; in `numbers` row starts and indices; in `codes` domains and comparisons.
+#[derive(Clone, Copy)]
+pub(crate) struct Packed<'a> {
+    pub floats: &'a [f64],
+    pub numbers: &'a [usize],
+    pub codes: &'a [u8],
+}
+
 // The lent slices have `spare` entries more than needed, and hold `junk`. Of all of presolve's
-// slices, the model's nine first, the one numbered `short` has one entry less; 22 is none.
+// slices, the model's nine first, the one numbered `short` has one entry less.
 #[derive(Clone, Copy)]
 pub(crate) struct Plan {
     pub vars: usize,
@@ -24,13 +37,13 @@ pub(crate) struct Plan {
     pub feas: f64,
     pub int_tol: f64,
     pub spare: usize,
-    pub short: usize,
+    pub short: Option<usize>,
     pub junk: f64,
 }
 
 // The model days' tolerances.
 pub(crate) fn sized(vars: usize, rows: usize, terms: usize, mode: u8) -> Plan
-    ensures { (result.vars ≡ vars) × (result.rows ≡ rows) × (result.terms ≡ terms) × (result.mode ≡ mode) × (result.spare ≡ 3) × (result.short ≡ 22)
+    ensures { (result.vars ≡ vars) × (result.rows ≡ rows) × (result.terms ≡ terms) × (result.mode ≡ mode) × (result.spare ≡ 3) × (result.short ≡ None)
         × (result.feas ≡ of_bits binary64 0x3eb0_c6f7_a0b5_ed8d) × (result.int_tol ≡ of_bits binary64 0x3e11_2e0b_e826_d695) × (result.junk ≡ nan) }
 {
     Plan {
@@ -41,7 +54,7 @@ pub(crate) fn sized(vars: usize, rows: usize, terms: usize, mode: u8) -> Plan
         feas: 0.000001,
         int_tol: 0.000000001,
         spare: 3,
-        short: 22,
+        short: None,
         junk: 0.0 / 0.0,
     }
 }
@@ -50,230 +63,204 @@ pub(crate) fn sized(vars: usize, rows: usize, terms: usize, mode: u8) -> Plan
 fn size(n: usize) -> usize
     ensures { result ≤ 65537 }
 {
-    if n < 65537 { n } else { 65537 }
+    n.min(65537)
 }
 
-fn less(n: usize, one: bool) -> usize {
-    if one {
-        if 0 < n {
-            return n - 1;
+impl Plan {
+    // The length n of the slice numbered k, or one less where that one is to be short.
+    fn length(self, n: usize, k: usize) -> usize {
+        if self.short == Some(k) {
+            n.saturating_sub(1)
+        } else {
+            n
         }
     }
-    n
 }
 
-// Parts of slices: n entries from a place on, or the first n, as far as there are so many.
-fn floats_at(s: &[f64], at: usize, n: usize) -> &[f64] {
-    let t = if at <= s.len() { &s[at..] } else { s };
-    if n <= t.len() { &t[0..n] } else { t }
+// n entries from a place on, as far as there are so many.
+fn part<T>(s: &[T], at: usize, n: usize) -> &[T] {
+    let rest = &s[at.min(s.len())..];
+    &rest[..n.min(rest.len())]
 }
 
-fn numbers_at(s: &[usize], at: usize, n: usize) -> &[usize] {
-    let t = if at <= s.len() { &s[at..] } else { s };
-    if n <= t.len() { &t[0..n] } else { t }
+// The first n, as far as there are so many.
+fn cut<T>(s: &mut [T], n: usize) -> &mut [T] {
+    let n = n.min(s.len());
+    &mut s[..n]
 }
 
-fn codes_at(s: &[u8], at: usize, n: usize) -> &[u8] {
-    let t = if at <= s.len() { &s[at..] } else { s };
-    if n <= t.len() { &t[0..n] } else { t }
+// What a lent slice may hold after a call: a zero where it is cleared, and junk elsewhere.
+trait Held: Copy {
+    fn holds(self, zero: bool, junk: f64) -> bool;
 }
 
-fn floats_cut(s: &mut [f64], n: usize) -> &mut [f64] {
-    if n <= s.len() { &mut s[0..n] } else { s }
-}
-
-fn numbers_cut(s: &mut [usize], n: usize) -> &mut [usize] {
-    if n <= s.len() { &mut s[0..n] } else { s }
-}
-
-fn marks_cut(s: &mut [u8], n: usize) -> &mut [u8] {
-    if n <= s.len() { &mut s[0..n] } else { s }
-}
-
-// How far the result slices are written: bounds, emitted rows, their terms, and kept rows.
-fn used(a: Answer, vars: usize) -> [usize; 4] {
-    match a {
-        Answer::Presolved(x) => [vars, x.emitted, x.terms, x.kept],
-        _ => [0; 4],
-    }
-}
-
-// How much of a working slice is cleared, where n entries are lent.
-fn cleared(a: Answer, n: usize) -> usize {
-    match a {
-        Answer::Refused(_) => 0,
-        _ => n,
-    }
-}
-
-fn float_is(x: f64, zero: bool, junk: f64) -> bool {
-    if zero {
-        return x == 0.0 && 1.0 / x > 0.0;
-    }
-    x == junk || (x != x && junk != junk)
-}
-
-// From a place on there are zeros, +0.0, up to another, and then junk.
-fn floats_hold(s: &[f64], from: usize, zeros: usize, junk: f64) -> bool {
-    for (i, x) in s.iter().enumerate().skip(from) {
-        if !float_is(*x, i < zeros, junk) {
-            return false;
+impl Held for f64 {
+    // The zero is +0.0.
+    fn holds(self, zero: bool, junk: f64) -> bool {
+        if zero {
+            return self == 0.0 && 1.0 / self > 0.0;
         }
+        self == junk || (self != self && junk != junk)
     }
-    true
 }
 
-fn numbers_hold(s: &[usize], from: usize, zeros: usize) -> bool {
-    for (i, x) in s.iter().enumerate().skip(from) {
-        if *x != either::number(i < zeros, 0, JUNK) {
-            return false;
-        }
+impl Held for usize {
+    fn holds(self, zero: bool, _junk: f64) -> bool {
+        self == if zero { 0 } else { JUNK }
     }
-    true
 }
 
-fn marks_hold(s: &[u8], from: usize) -> bool {
-    for x in s.iter().skip(from) {
-        if *x != MARK {
-            return false;
-        }
+impl Held for u8 {
+    fn holds(self, zero: bool, _junk: f64) -> bool {
+        self == if zero { 0 } else { MARK }
     }
-    true
 }
 
-// The result slices, in presolve's order, still hold the junk behind their used fronts.
-fn results(
-    a: Answer,
-    p: Plan,
-    x0: &[f64],
-    x1: &[f64],
-    x2: &[usize],
-    x3: &[u8],
-    x4: &[f64],
-    x5: &[usize],
-    x6: &[usize],
-    x7: &[usize],
-    x8: &[usize],
-    x9: &[f64],
-) -> bool {
-    let u = used(a, p.vars);
-    let junk = p.junk;
-    let bounds = floats_hold(x0, u[0], 0, junk) & floats_hold(x1, u[0], 0, junk);
-    let rows = numbers_hold(x2, u[1], 0) & marks_hold(x3, u[1]) & floats_hold(x4, u[1], 0, junk);
-    let spans = numbers_hold(x5, u[1], 0) & numbers_hold(x6, u[1], 0);
-    let kept = numbers_hold(x7, u[3], 0);
-    let terms = numbers_hold(x8, u[2], 0) & floats_hold(x9, u[2], 0, junk);
-    bounds & rows & spans & kept & terms
+// From a place on there are zeros up to another, and then junk.
+fn hold<T: Held>(s: &[T], from: usize, zeros: usize, junk: f64) -> bool {
+    s.iter()
+        .enumerate()
+        .skip(from)
+        .all(|(i, x)| x.holds(i < zeros, junk))
+}
+
+// The result slices still hold the junk behind their used fronts.
+fn results_hold(r: &Results, a: Answer, p: Plan) -> bool {
+    let (vars, rows, terms, kept) = match a {
+        Ok(Presolved::Model(x)) => (p.vars, x.emitted, x.terms, x.kept),
+        _ => (0, 0, 0, 0),
+    };
+    hold(r.lower, vars, 0, p.junk)
+        & hold(r.upper, vars, 0, p.junk)
+        & hold(r.emit_row, rows, 0, p.junk)
+        & hold(r.emit_rewritten, rows, 0, p.junk)
+        & hold(r.emit_rhs, rows, 0, p.junk)
+        & hold(r.emit_from, rows, 0, p.junk)
+        & hold(r.emit_upto, rows, 0, p.junk)
+        & hold(r.kept, kept, 0, p.junk)
+        & hold(r.term_index, terms, 0, p.junk)
+        & hold(r.term_coeff, terms, 0, p.junk)
+}
+
+// How many floats, numbers and places of rows are lent to a call.
+#[derive(Clone, Copy)]
+struct Lengths {
+    floats: usize,
+    numbers: usize,
+    adjacency: usize,
 }
 
 // The working slices hold zeros as far as they were lent to an accepted call, and junk behind.
-fn working(
-    a: Answer,
-    junk: f64,
-    w: &[f64],
-    l: usize,
-    u: &[usize],
-    m: usize,
-    j: &[usize],
-    k: usize,
-) -> bool {
-    floats_hold(w, 0, cleared(a, l), junk)
-        & numbers_hold(u, 0, cleared(a, m))
-        & numbers_hold(j, 0, cleared(a, k))
+fn space_holds(s: &Space, lent: Lengths, a: Answer, junk: f64) -> bool {
+    let cleared = match a {
+        Ok(_) => lent,
+        Err(_) => Lengths {
+            floats: 0,
+            numbers: 0,
+            adjacency: 0,
+        },
+    };
+    hold(s.floats, 0, cleared.floats, junk)
+        & hold(s.numbers, 0, cleared.numbers, junk)
+        & hold(s.adjacency, 0, cleared.adjacency, junk)
 }
 
-// One call on the working slices as they are.
-fn call(
-    rt: &impl Print,
-    p: Plan,
-    f: &[f64],
-    n: &[usize],
-    c: &[u8],
-    floats: &mut [f64],
-    numbers: &mut [usize],
-    adjacency: &mut [usize],
-) -> io::Result<Answer> {
+// What a call hands in of a model.
+fn input(p: Plan, m: Packed) -> Input {
     let vars = size(p.vars);
     let rows = size(p.rows);
     let terms = size(p.terms);
-    let spare = size(p.spare);
-    let v = vars + spare;
-    let r = rows + spare;
-    let t = terms + spare;
-    let starts = rows + 1;
-    let upper = 2 * vars;
     let coeff = 3 * vars;
-    let rhs = coeff + terms;
-    let short = p.short;
-    let junk = p.junk;
-    let mut x0 = [junk; 4100];
-    let mut x1 = [junk; 4100];
-    let mut x2 = [JUNK; 8196];
-    let mut x3 = [MARK; 8196];
-    let mut x4 = [junk; 8196];
-    let mut x5 = [JUNK; 8196];
-    let mut x6 = [JUNK; 8196];
-    let mut x7 = [JUNK; 8196];
-    let mut x8 = [JUNK; 65540];
-    let mut x9 = [junk; 65540];
-    let a = presolve::presolve(
-        floats_at(f, 0, less(vars, short == 0)),
-        floats_at(f, vars, less(vars, short == 1)),
-        floats_at(f, upper, less(vars, short == 2)),
-        codes_at(c, 0, less(vars, short == 3)),
-        numbers_at(n, 0, less(starts, short == 4)),
-        numbers_at(n, starts, less(terms, short == 5)),
-        floats_at(f, coeff, less(terms, short == 6)),
-        codes_at(c, vars, less(rows, short == 7)),
-        floats_at(f, rhs, less(rows, short == 8)),
-        p.mode,
-        p.feas,
-        p.int_tol,
-        floats_cut(&mut x0, less(v, short == 9)),
-        floats_cut(&mut x1, less(v, short == 10)),
-        numbers_cut(&mut x2, less(r, short == 11)),
-        marks_cut(&mut x3, less(r, short == 12)),
-        floats_cut(&mut x4, less(r, short == 13)),
-        numbers_cut(&mut x5, less(r, short == 14)),
-        numbers_cut(&mut x6, less(r, short == 15)),
-        numbers_cut(&mut x7, less(r, short == 16)),
-        numbers_cut(&mut x8, less(t, short == 17)),
-        floats_cut(&mut x9, less(t, short == 18)),
-        floats,
-        numbers,
-        adjacency,
-    );
+    Input {
+        obj: part(m.floats, 0, p.length(vars, 0)),
+        lower: part(m.floats, vars, p.length(vars, 1)),
+        upper: part(m.floats, 2 * vars, p.length(vars, 2)),
+        domain: part(m.codes, 0, p.length(vars, 3)),
+        rows: Rows {
+            starts: part(m.numbers, 0, p.length(rows + 1, 4)),
+            index: part(m.numbers, rows + 1, p.length(terms, 5)),
+            coeff: part(m.floats, coeff, p.length(terms, 6)),
+            cmp: part(m.codes, vars, p.length(rows, 7)),
+            rhs: part(m.floats, coeff + terms, p.length(rows, 8)),
+        },
+        mode: p.mode,
+        feas: p.feas,
+        int_tol: p.int_tol,
+    }
+}
+
+// One call on the working slices as they are.
+fn call(rt: &impl Print, p: Plan, m: Packed, space: &mut Space) -> io::Result<Answer> {
+    let v = size(p.vars) + size(p.spare);
+    let r = size(p.rows) + size(p.spare);
+    let t = size(p.terms) + size(p.spare);
+    let mut lower = [p.junk; 4100];
+    let mut upper = [p.junk; 4100];
+    let mut emit_row = [JUNK; 8196];
+    let mut emit_rewritten = [MARK; 8196];
+    let mut emit_rhs = [p.junk; 8196];
+    let mut emit_from = [JUNK; 8196];
+    let mut emit_upto = [JUNK; 8196];
+    let mut kept = [JUNK; 8196];
+    let mut term_index = [JUNK; 65540];
+    let mut term_coeff = [p.junk; 65540];
+    let mut lent = Results {
+        lower: cut(&mut lower, p.length(v, 9)),
+        upper: cut(&mut upper, p.length(v, 10)),
+        emit_row: cut(&mut emit_row, p.length(r, 11)),
+        emit_rewritten: cut(&mut emit_rewritten, p.length(r, 12)),
+        emit_rhs: cut(&mut emit_rhs, p.length(r, 13)),
+        emit_from: cut(&mut emit_from, p.length(r, 14)),
+        emit_upto: cut(&mut emit_upto, p.length(r, 15)),
+        kept: cut(&mut kept, p.length(r, 16)),
+        term_index: cut(&mut term_index, p.length(t, 17)),
+        term_coeff: cut(&mut term_coeff, p.length(t, 18)),
+    };
+    let a = presolve::presolve(input(p, m), &mut lent, space);
     print::answer(rt, a)?;
-    let ok = results(a, p, &x0, &x1, &x2, &x3, &x4, &x5, &x6, &x7, &x8, &x9);
-    print::judged(rt, ", results", ok)?;
+    let whole = Results {
+        lower: &mut lower,
+        upper: &mut upper,
+        emit_row: &mut emit_row,
+        emit_rewritten: &mut emit_rewritten,
+        emit_rhs: &mut emit_rhs,
+        emit_from: &mut emit_from,
+        emit_upto: &mut emit_upto,
+        kept: &mut kept,
+        term_index: &mut term_index,
+        term_coeff: &mut term_coeff,
+    };
+    print::judged(rt, ", results", results_hold(&whole, a, p))?;
     Ok(a)
 }
 
 // One call on working slices that hold junk.
-pub(crate) fn ask(
-    rt: &impl Print,
-    name: &str,
-    p: Plan,
-    f: &[f64],
-    n: &[usize],
-    c: &[u8],
-) -> io::Result<()> {
+pub(crate) fn ask(rt: &impl Print, name: &str, p: Plan, m: Packed) -> io::Result<()> {
     let vars = size(p.vars);
     let rows = size(p.rows);
     let terms = size(p.terms);
     let spare = size(p.spare);
-    let l = less(4 * vars + 8 * rows + terms + spare, p.short == 19);
-    let m = less(3 * vars + 10 * rows + 2 * terms + 6 + spare, p.short == 20);
-    let k = less(vars + terms + 1 + spare, p.short == 21);
-    let mut w = [p.junk; 147470];
-    let mut u = [JUNK; 225300];
-    let mut j = [JUNK; 69640];
-    let w_lent = floats_cut(&mut w, l);
-    let u_lent = numbers_cut(&mut u, m);
-    let j_lent = numbers_cut(&mut j, k);
+    let lent = Lengths {
+        floats: p.length(4 * vars + 8 * rows + terms + spare, 19),
+        numbers: p.length(3 * vars + 10 * rows + 2 * terms + 6 + spare, 20),
+        adjacency: p.length(vars + terms + 1 + spare, 21),
+    };
+    let mut floats = [p.junk; 147470];
+    let mut numbers = [JUNK; 225300];
+    let mut adjacency = [JUNK; 69640];
+    let mut space = Space {
+        floats: cut(&mut floats, lent.floats),
+        numbers: cut(&mut numbers, lent.numbers),
+        adjacency: cut(&mut adjacency, lent.adjacency),
+    };
     print::text(rt, name)?;
-    let a = call(rt, p, f, n, c, w_lent, u_lent, j_lent)?;
-    print::judged(rt, ", working", working(a, p.junk, &w, l, &u, m, &j, k))?;
+    let a = call(rt, p, m, &mut space)?;
+    let whole = Space {
+        floats: &mut floats,
+        numbers: &mut numbers,
+        adjacency: &mut adjacency,
+    };
+    print::judged(rt, ", working", space_holds(&whole, lent, a, p.junk))?;
     print::text(rt, "\n")
 }
 
@@ -281,19 +268,16 @@ pub(crate) fn ask(
 pub(crate) fn ask_again(
     rt: &impl Print,
     p: Plan,
-    f: &[f64],
-    n: &[usize],
-    c: &[u8],
-    w: &mut [f64],
-    u: &mut [usize],
-    j: &mut [usize],
+    m: Packed,
+    space: &mut Space,
     held: f64,
 ) -> io::Result<()> {
-    let a = call(rt, p, f, n, c, w, u, j)?;
-    print::judged(
-        rt,
-        ", working",
-        working(a, held, w, w.len(), u, u.len(), j, j.len()),
-    )?;
+    let a = call(rt, p, m, space)?;
+    let lent = Lengths {
+        floats: space.floats.len(),
+        numbers: space.numbers.len(),
+        adjacency: space.adjacency.len(),
+    };
+    print::judged(rt, ", working", space_holds(space, lent, a, held))?;
     print::text(rt, "\n")
 }

@@ -6,7 +6,6 @@
 #![tactic(auto)]
 
 mod days;
-mod either;
 mod exact;
 mod large;
 mod lend;

@@ -1,6 +1,7 @@
 // The parts of a line.
+use crate::lend::Answer;
 use definition::Counts;
-use presolve::Answer;
+use presolve::Presolved;
 use std::io;
 
 pub(crate) fn text(rt: &impl Print, t: &str) -> io::Result<()> {
@@ -23,17 +24,16 @@ fn counts(rt: &impl Print, k: Counts) -> io::Result<()> {
 // rewritten ones have, and how many rows are kept.
 pub(crate) fn answer(rt: &impl Print, a: Answer) -> io::Result<()> {
     match a {
-        Answer::Refused(k) => {
+        Err(refusal) => {
             text(rt, ": refused")?;
-            number(rt, k as usize)
+            number(rt, usize::from(u8::from(refusal)))
         }
-        Answer::Infeasible(k) => {
+        Ok(Presolved::Infeasible(k)) => {
             text(rt, ": infeasible")?;
             counts(rt, k)
         }
-        Answer::Presolved(x) => {
-            let verdict = if x.flag { ": reduced" } else { ": unchanged" };
-            text(rt, verdict)?;
+        Ok(Presolved::Model(x)) => {
+            text(rt, if x.flag { ": reduced" } else { ": unchanged" })?;
             counts(rt, x.counts)?;
             text(rt, " with")?;
             number(rt, x.emitted)?;

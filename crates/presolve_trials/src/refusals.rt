@@ -1,36 +1,47 @@
 // Refusals 3 to 9, what is just not refused, and which of several faults is named.
-use crate::lend::{ask, sized};
-use crate::{either, print};
+use crate::lend::{Packed, ask, sized};
+use crate::print;
 use std::io;
 
 // Two Boolean variables in two rows.
-fn starts(rt: &impl Print, name: &str, n: &[usize]) -> io::Result<()> {
-    let f = [0.0, 0.0, 0.0, 0.0, 1.0, 1.0, 1.0, 1.0, 2.0, 2.0];
-    ask(rt, name, sized(2, 2, 2, 1), &f, n, &[2, 2, 1, 1])
+fn starts(rt: &impl Print, name: &str, numbers: &[usize]) -> io::Result<()> {
+    let m = Packed {
+        floats: &[0.0, 0.0, 0.0, 0.0, 1.0, 1.0, 1.0, 1.0, 2.0, 2.0],
+        numbers,
+        codes: &[2, 2, 1, 1],
+    };
+    ask(rt, name, sized(2, 2, 2, 1), m)
 }
 
 // One variable in one row.
 fn codes(rt: &impl Print, name: &str, mode: u8, domain: u8, cmp: u8) -> io::Result<()> {
-    let f = [0.0, 0.0, 1.0, 1.0, 2.0];
-    ask(
-        rt,
-        name,
-        sized(1, 1, 1, mode),
-        &f,
-        &[0, 1, 0],
-        &[domain, cmp],
-    )
+    let m = Packed {
+        floats: &[0.0, 0.0, 1.0, 1.0, 2.0],
+        numbers: &[0, 1, 0],
+        codes: &[domain, cmp],
+    };
+    ask(rt, name, sized(1, 1, 1, mode), m)
 }
 
-fn row(rt: &impl Print, name: &str, f: &[f64], cmp: u8) -> io::Result<()> {
-    ask(rt, name, sized(1, 1, 1, 1), f, &[0, 1, 0], &[1, cmp])
+fn row(rt: &impl Print, name: &str, floats: &[f64], cmp: u8) -> io::Result<()> {
+    let m = Packed {
+        floats,
+        numbers: &[0, 1, 0],
+        codes: &[1, cmp],
+    };
+    ask(rt, name, sized(1, 1, 1, 1), m)
 }
 
 fn tolerances(rt: &impl Print, name: &str, feas: f64, int_tol: f64) -> io::Result<()> {
     let mut p = sized(1, 1, 1, 1);
     p.feas = feas;
     p.int_tol = int_tol;
-    ask(rt, name, p, &[0.0, 0.0, 1.0, 1.0, 2.0], &[0, 1, 0], &[1, 1])
+    let m = Packed {
+        floats: &[0.0, 0.0, 1.0, 1.0, 2.0],
+        numbers: &[0, 1, 0],
+        codes: &[1, 1],
+    };
+    ask(rt, name, p, m)
 }
 
 fn shapes(rt: &impl Print) -> io::Result<()> {
@@ -68,32 +79,41 @@ fn limits(rt: &impl Print, nan: f64) -> io::Result<()> {
     tolerances(rt, "int_tol below 0", 0.0, -5e-324)?;
     tolerances(rt, "both 0.5", 0.5, 0.5)?;
     tolerances(rt, "both 0", 0.0, 0.0)?;
-    ask(rt, "nothing", sized(0, 0, 0, 1), &[], &[0], &[])
+    let nothing = Packed {
+        floats: &[],
+        numbers: &[0],
+        codes: &[],
+    };
+    ask(rt, "nothing", sized(0, 0, 0, 1), nothing)
 }
 
 // Fault k and all later ones. Fault 2 takes a large model, so here 2 is as 3.
 fn faults(rt: &impl Print, k: usize) -> io::Result<()> {
     let nan = 0.0 / 0.0;
     let mut p = sized(1, 1, 1, 1);
-    p.feas = either::float(k <= 9, 0.51, 0.5);
-    p.short = either::number(k <= 1, 0, either::number(k <= 10, 9, 22));
+    p.feas = if k <= 9 { 0.51 } else { 0.5 };
+    p.short = if k <= 1 {
+        Some(0)
+    } else if k <= 10 {
+        Some(9)
+    } else {
+        None
+    };
     p.spare = 0;
-    let obj = either::float(k <= 7, nan, 0.0);
-    let lower = either::float(k <= 6, nan, 0.0);
-    let rhs = either::float(k <= 8, nan, 2.0);
-    let f = [obj, lower, 1.0, 1.0, rhs];
-    let n = [
-        either::number(k <= 3, 1, 0),
-        1,
-        either::number(k <= 4, 1, 0),
-    ];
+    let obj = if k <= 7 { nan } else { 0.0 };
+    let lower = if k <= 6 { nan } else { 0.0 };
+    let rhs = if k <= 8 { nan } else { 2.0 };
+    let cmp = if k <= 5 { 3 } else { 1 };
+    let start = if k <= 3 { 1 } else { 0 };
+    let index = if k <= 4 { 1 } else { 0 };
     print::text(rt, "faults from")?;
     print::number(rt, k)?;
-    if k <= 5 {
-        ask(rt, "", p, &f, &n, &[1, 3])
-    } else {
-        ask(rt, "", p, &f, &n, &[1, 1])
-    }
+    let m = Packed {
+        floats: &[obj, lower, 1.0, 1.0, rhs],
+        numbers: &[start, 1, index],
+        codes: &[1, cmp],
+    };
+    ask(rt, "", p, m)
 }
 
 fn ladder(rt: &impl Print) -> io::Result<()> {

@@ -9,7 +9,7 @@ use Rattle.print_result.specs.Text.{written_line, rewritten_line, term_line, val
 use Rattle.print_result.specs.Text.{validate_lines, term_lines, row_text, row_texts, followed, answer_text}
 
 pub case_1 :
-    answer_text Kind.Reduced (record { rows_dropped = 1; bounds_tightened = 1; vars_fixed = 0; coeffs_tightened = 0; passes = 2 })
+    answer_text Kind.Reduced (record { rowsDropped = 1; boundsTightened = 1; varsFixed = 0; coeffsTightened = 0; passes = 2 })
     1 (of_bits binary64 0x8000_0000_0000_0000 ∷ []) (of_bits binary64 0x4008_0000_0000_0000 ∷ [])
     0 [] [] [] [] [] [] [] 1 (0 ∷ [])
     ≡ ascii "answer reduced\ncounts 1 1 0 0 2\nbound 0 8000000000000000 4008000000000000\nvalidate 0\n"
@@ -25,7 +25,7 @@ unfolding choose ascii digit tens decimal hex_digits number bits written_line re
 rows = refl
 
 pub infeasible :
-    answer_text Kind.Infeasible (record { rows_dropped = 0; bounds_tightened = 30; vars_fixed = 8192; coeffs_tightened = 0; passes = 1 })
+    answer_text Kind.Infeasible (record { rowsDropped = 0; boundsTightened = 30; varsFixed = 8192; coeffsTightened = 0; passes = 1 })
     1 (of_bits binary64 0 ∷ []) (of_bits binary64 0 ∷ [])
     0 [] [] [] [] [] [] [] 0 []
     ≡ ascii "answer infeasible\ncounts 0 30 8192 0 1\n"

@@ -11,7 +11,7 @@ use mathlib.Core.List.{List, [], ◌∷◌, ◌++◌}
 use Rattle.std.proofs.Math.ListN.{length-append}
 use Rattle.floats.specs.Num.{choose}
 use Rattle.print_result.specs.declared.Kind.{Kind}
-use Rattle.print_result.specs.declared.Counts.{Counts}
+use Rattle.definition.specs.declared.Counts.{Counts}
 use Rattle.print_result.specs.Text.{ascii, digit, decimal, hex_digits, number, bits, answer_line, counts_line, bound_line, written_line}
 use Rattle.print_result.specs.Text.{rewritten_line, term_line, validate_line, refused_line, each, from_to, bound_at, bound_lines, validate_at}
 use Rattle.print_result.specs.Text.{validate_lines, term_at, term_lines, row_text, row_at, row_texts, followed, answer_text}
@@ -46,10 +46,10 @@ bits_length x = ap suc (hex_length 16 _)
 
 -- ---- lines
 pub record CountsBelow (k : Counts) : Type 0 where
-  pub dropped : k.rows_dropped < 18446744073709551616
-  pub tightened : k.bounds_tightened < 18446744073709551616
-  pub fixed : k.vars_fixed < 18446744073709551616
-  pub rewritten : k.coeffs_tightened < 18446744073709551616
+  pub dropped : k.rowsDropped < 18446744073709551616
+  pub tightened : k.boundsTightened < 18446744073709551616
+  pub fixed : k.varsFixed < 18446744073709551616
+  pub rewritten : k.coeffsTightened < 18446744073709551616
   pub passes : k.passes < 18446744073709551616
 
 pub answer_line_length : (kind : Kind) → length (answer_line kind) ≤ 18

@@ -1,5 +1,5 @@
 -- The printed result, byte for byte. Every line ends with a line feed, the last one too. Lines of a kind come in rising order.
-use Rattle.std.specs.Prelude.{ℕ, zero, suc, ◌-◌, ◌/◌, ◌%◌, ◌≤◌, min, ◌≡◌, List, [], ◌∷◌, ◌++◌, Bool, true, false, length, get_or, eqb, ltb, Float}
+use Rattle.std.specs.Prelude.{Option, Some, None, ℕ, zero, suc, ◌-◌, ◌/◌, ◌%◌, min, List, [], ◌∷◌, ◌++◌, Bool, true, false, length, get_or, eqb, ltb, Float}
 use Prim.Native.String.{String}
 use Prim.Native.String as Str
 use Prim.Native.Char.{code}
@@ -7,7 +7,8 @@ use Rattle.std.specs.Float.{nan, binary64}
 use Rattle.std.specs.Float.Ieee.{to_bits}
 use Rattle.floats.specs.Num.{choose}
 use Rattle.print_result.specs.declared.Kind.{Kind}
-use Rattle.print_result.specs.declared.Counts.{Counts}
+use Rattle.definition.specs.declared.Counts.{Counts}
+use Rattle.print_result.specs.declared.Off.{Off}
 
 -- ---- characters
 unfoldable pub ascii : String → List ℕ
@@ -48,7 +49,7 @@ answer_line Kind.Unchanged = ascii "answer unchanged\n"
 answer_line Kind.Infeasible = ascii "answer infeasible\n"
 
 unfoldable pub counts_line : Counts → List ℕ
-counts_line k = ascii "counts" ++ (number k.rows_dropped ++ (number k.bounds_tightened ++ (number k.vars_fixed ++ (number k.coeffs_tightened ++ (number k.passes ++ newline)))))
+counts_line k = ascii "counts" ++ (number k.rowsDropped ++ (number k.boundsTightened ++ (number k.varsFixed ++ (number k.coeffsTightened ++ (number k.passes ++ newline)))))
 
 unfoldable pub bound_line : ℕ → Float → Float → List ℕ
 bound_line v l u = ascii "bound" ++ (number v ++ (bits l ++ (bits u ++ newline)))
@@ -78,13 +79,12 @@ off_line k i = ascii "numbers" ++ (number k ++ (number i ++ newline))
 unfoldable pub numbers_line : ℕ → ℕ → List ℕ
 numbers_line k i = choose (eqb k 0) whole_line (off_line k i)
 
--- ---- lines of a kind
--- the smaller of two lengths
-pub record Least (a b r : ℕ) : Type 0 where
-  pub is : r ≡ min a b
-  pub first : r ≤ a
-  pub second : r ≤ b
+-- the same of what the code is handed
+unfoldable pub numbers_text : Option Off → List ℕ
+numbers_text None = whole_line
+numbers_text (Some o) = off_line o.number o.place
 
+-- ---- lines of a kind
 -- k of them, from entry i on
 unfoldable pub each : (ℕ → List ℕ) → ℕ → ℕ → List ℕ
 each f zero i = []

@@ -1,6 +1,6 @@
 -- Laws of the text: a number's last digit, and those before it; the pattern of a NaN; and one line of those of a kind.
 use Rattle.std.specs.Prelude.{ℕ, zero, suc, ◌+◌, ◌-◌, ◌/◌, ◌%◌, ◌≤◌, ◌<◌, min, ◌≡◌, refl, List, [], ◌∷◌, ◌++◌, Bool, true, false, Float, length, get_or, take}
-use Rattle.std.proofs.Common.{ap, sym, subst, ◌∙◌, append-nil, arith, length-take, length-drop, get_or-take, get_or-drop, add-one, lt-ltb, le-ltb, eq-eqb, ne_eqb}
+use Rattle.std.proofs.Common.{ap, sym, subst, ◌∙◌, add-zero, add-one, append-nil, append_assoc, arith, length-take, length-drop, get_or-take, get_or-drop, lt-ltb, le-ltb, eq-eqb, ne_eqb}
 use Rattle.std.proofs.lemmas.Bool.{false≢true}
 use Rattle.std.specs.Float.{nan, inf, fin, binary64}
 use Rattle.std.specs.Float.Ieee.{is_nan, to_bits}
@@ -9,10 +9,10 @@ use Rattle.std.proofs.Math.Decide.{dec_lt}
 use Rattle.floats.specs.Num.{choose}
 use Rattle.row_terms.specs.RowMark.{marked, is_rewritten_lem}
 use Rattle.row_terms.specs.Parts.{row_part}
-use Rattle.print_result.specs.Text.{digit, tens, decimal, hex_digits, each, from_to, Least, written_line, rewritten_line, term_line, term_at, term_lines, whole_line, off_line, numbers_line}
+use Rattle.print_result.specs.Text.{digit, tens, decimal, hex_digits, each, from_to, written_line, rewritten_line, term_line, term_at, term_lines, whole_line, off_line, numbers_line}
 use Rattle.print_result.specs.Text.{row_text, answer_line, counts_line, bound_lines, row_texts, validate_lines, followed, answer_text}
 use Rattle.print_result.specs.declared.Kind.{Kind}
-use Rattle.print_result.specs.declared.Counts.{Counts}
+use Rattle.definition.specs.declared.Counts.{Counts}
 
 one_digit : (k n : ℕ) → n < 10 → tens (suc k) n ≡ digit (n % 10) ∷ []
 unfolding tens choose
@@ -59,6 +59,13 @@ nan_bits (inf s) e = absurd (false≢true e)
 nan_bits (fin s m f) e = absurd (false≢true e)
 
 -- ---- lines of a kind
+each_more : (f : ℕ → List ℕ) (k i : ℕ) → each f (suc k) i ≡ each f k i ++ f (i + k)
+unfolding each
+each_more f zero i = append-nil (f i) ∙ ap f (sym (add-zero i))
+each_more f (suc k) i =
+    let e : suc i + k ≡ i + suc k = omega arith in
+    ap (λ (l : List ℕ). f i ++ l) (each_more f k (suc i) ∙ ap (λ (j : ℕ). each f k (suc i) ++ f j) e) ∙ sym (append_assoc (f i) (each f k (suc i)) (f (i + suc k)))
+
 pub first_line : (f : ℕ → List ℕ) (i n : ℕ) → i < n → from_to f i n ≡ f i ++ from_to f (i + 1) n
 unfolding from_to each
 first_line f i n h =
@@ -69,9 +76,12 @@ pub no_line : (f : ℕ → List ℕ) (i n : ℕ) → n ≤ i → from_to f i n �
 unfolding from_to each
 no_line f i n h = let z : n - i ≡ 0 = omega arith in ap (λ (k : ℕ). each f k i) z
 
--- how many entries five lists have
-pub entries : {n p q r s t a b c d m : ℕ} → Least s t a → Least q r b → Least p b c → Least c a d → Least n d m → m ≡ min n (min (min p (min q r)) (min s t))
-entries u v w x y = rw (y.is, x.is, w.is, v.is, u.is)
+pub more_lines : (f : ℕ → List ℕ) (n : ℕ) → from_to f 0 (n + 1) ≡ from_to f 0 n ++ f n
+unfolding from_to
+more_lines f n =
+    let z : n + 1 - 0 ≡ suc (n - 0) = omega arith in
+    let y : 0 + (n - 0) ≡ n = omega arith in
+    ap (λ (k : ℕ). each f k 0) z ∙ each_more f (n - 0) 0 ∙ ap (λ (k : ℕ). each f (n - 0) 0 ++ f k) y
 
 -- ---- a part of the terms, line by line: the lines of the whole lists at its place
 each_shifted : (f g : ℕ → List ℕ) (s k i j : ℕ) → j ≡ s + i → ((n : ℕ) → n < i + k → f n ≡ g (s + n)) → each f k i ≡ each g k j

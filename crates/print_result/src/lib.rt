@@ -1,18 +1,22 @@
 // The printer: an answer of presolve as text, in a lent buffer. specs/Text says what the text is,
-// specs/Page what the buffer holds.
+// specs/Printing what the buffer holds. No `Display`: std's `fmt` promises nothing of when it fails,
+// and here a text is refused exactly where it does not fit.
 #![tactic(auto)]
 
 mod lines;
 mod put;
 mod rows;
+mod sink;
 
-ghost use Rattle.std.specs.Prelude.{◌≡◌};
-ghost use Rattle.print_result.specs.Text.{answer_line, answer_text, refused_line, numbers_line};
-ghost use Rattle.print_result.specs.Text.{followed as Text·followed};
-ghost use Rattle.print_result.specs.Page.{page, Poured};
+ghost use Rattle.std.specs.Prelude.{◌≡◌, ℕ, List, length};
+ghost use Rattle.print_result.specs.Text.{answer_text, followed, refused_line, numbers_text};
 ghost use Rattle.print_result.specs.Printing.{printed, outcome};
 
-// What was answered.
+use crate::sink::{Buffer, Count, Sink};
+use definition::Counts;
+
+// What was answered. A kind beside the lists, and no enum that has them: print_answer promises its text
+// for every kind and all lists.
 #[derive(Clone, Copy)]
 pub enum Kind {
     Reduced,
@@ -20,170 +24,147 @@ pub enum Kind {
     Infeasible,
 }
 
-// The five counts, in the order in which they are printed.
+impl Kind {
+    // Whether more than the counts follows.
+    #[tactic(auto, unfolding(crate::specs::Text::followed))]
+    fn is_followed(self) -> bool
+        ensures { result ≡ followed self }
+    {
+        match self {
+            Kind::Reduced | Kind::Unchanged => true,
+            Kind::Infeasible => false,
+        }
+    }
+}
+
+// Terms, list beside list, as C lends them.
 #[derive(Clone, Copy)]
-pub struct Counts {
-    pub rows_dropped: usize,
-    pub bounds_tightened: usize,
-    pub vars_fixed: usize,
-    pub coeffs_tightened: usize,
-    pub passes: usize,
+pub struct Terms<'a> {
+    pub index: &'a [usize],
+    pub coeff: &'a [f64],
 }
 
-// How many bytes were written, or that they did not fit.
+// The emitted rows, list beside list as C lends them, as far as every list has them. A row whose mark is 0 is
+// written, any other rewritten: then the terms of its span follow.
 #[derive(Clone, Copy)]
-pub enum Printed {
-    NoRoom,
-    Bytes(usize),
+pub struct Emitted<'a> {
+    pub row: &'a [usize],
+    pub rewritten: &'a [u8],
+    pub rhs: &'a [f64],
+    pub from: &'a [usize],
+    pub upto: &'a [usize],
 }
 
-fn put_answer(out: &mut [u8], at: usize, cap: usize, kind: Kind) -> usize
-    ensures { Poured cap (answer_line kind) (page out.old at) (page out.new result) }
-{
-    match kind {
-        Kind::Reduced => put::put_text(out, at, cap, b"answer reduced\n"),
-        Kind::Unchanged => put::put_text(out, at, cap, b"answer unchanged\n"),
-        Kind::Infeasible => put::put_text(out, at, cap, b"answer infeasible\n"),
+// What is printed of an answer: every bound, row and validated row that the lists have. model are
+// the model's terms, terms those of the rewritten rows.
+#[derive(Clone, Copy)]
+pub struct Answer<'a> {
+    pub kind: Kind,
+    pub counts: Counts,
+    pub lower: &'a [f64],
+    pub upper: &'a [f64],
+    pub rows: Emitted<'a>,
+    pub model: Terms<'a>,
+    pub terms: Terms<'a>,
+    pub kept: &'a [usize],
+}
+
+// The condition of a farm model that fails, by its number, and its place. A number: the printer knows no more
+// of a condition than what it prints.
+#[derive(Clone, Copy)]
+pub struct Off {
+    pub number: usize,
+    pub place: usize,
+}
+
+// What can be printed.
+trait Text {
+    ghost bytes: { Self → List ℕ };
+
+    fn write<S: Sink>(&self, out: &mut S)
+    where
+        Self: Sized,
+        ensures { S.wrote out.old (bytes self.now) out.new };
+}
+
+impl Text for Answer<'_> {
+    ghost bytes = { λ a. answer_text a.kind a.counts (length a.lower.now) a.lower.now a.upper.now
+        (length a.rows.row.now) a.rows.row.now a.rows.rewritten.now a.rows.rhs.now a.rows.from.now a.rows.upto.now
+        a.terms.index.now a.terms.coeff.now (length a.kept.now) a.kept.now };
+
+    fn write<S: Sink>(&self, out: &mut S) {
+        lines::put_kind(out, self.kind);
+        lines::put_counts(out, self.counts);
+        if self.kind.is_followed() {
+            lines::put_bounds(out, self.lower, self.upper);
+            rows::put_rows(out, self.rows, self.model, self.terms);
+            lines::put_kept(out, self.kept);
+        }
     }
 }
 
-// Whether more than the counts follows.
-fn followed(kind: Kind) -> bool
-    ensures { result ≡ Text·followed kind }
-{
-    match kind {
-        Kind::Reduced => true,
-        Kind::Unchanged => true,
-        Kind::Infeasible => false,
+// The number of a refusal, of which the printer knows no more either: the reader's and the table's are two
+// types.
+#[derive(Clone, Copy)]
+struct Refused(u8);
+
+impl Text for Refused {
+    ghost bytes = { λ n. refused_line n.0 };
+
+    fn write<S: Sink>(&self, out: &mut S) {
+        lines::put_refused(out, usize::from(self.0));
     }
 }
 
-// The whole text from a place on.
-fn put_all<'a>(
-    kind: Kind,
-    counts: Counts,
-    vars: usize,
-    lower: &[f64],
-    upper: &[f64],
-    emitted: usize,
-    row: &[usize],
-    rewritten: &[u8],
-    rhs: &[f64],
-    from: &[usize],
-    upto: &[usize],
-    index: &'a [usize],
-    coeff: &'a [f64],
-    term_index: &'a [usize],
-    term_coeff: &'a [f64],
-    validated: usize,
-    kept: &[usize],
-    out: &mut [u8],
-    at: usize,
-    cap: usize,
-) -> usize
-    ensures { Poured cap (answer_text kind counts vars lower.now upper.now emitted row.now rewritten.now
-        rhs.now from.now upto.now term_index.now term_coeff.now validated kept.now)
-        (page out.old at) (page out.new result) }
-{
-    let a = put_answer(out, at, cap, kind);
-    let b = lines::put_counts(out, a, cap, counts);
-    if !followed(kind) {
-        return b;
+impl Text for Option<Off> {
+    ghost bytes = { numbers_text };
+
+    fn write<S: Sink>(&self, out: &mut S) {
+        match self {
+            None => lines::put_whole(out),
+            Some(off) => lines::put_off(out, off.number, off.place),
+        }
     }
-    let c = lines::put_bounds(out, b, cap, vars, lower, upper);
-    let d = rows::put_rows(
-        out, c, cap, emitted, row, rewritten, rhs, from, upto, index, coeff, term_index, term_coeff,
-    );
-    lines::put_kept(out, d, cap, validated, kept)
 }
 
-// Prints an answer: the first vars bounds, the first emitted rows and the first validated kept
-// rows. A row whose mark is 0 is written, any other rewritten: then the terms of its span follow.
-// index and coeff are the model's terms, term_index and term_coeff those of the rewritten rows. The
-// first run only counts.
-pub fn print_answer<'a>(
-    kind: Kind,
-    counts: Counts,
-    vars: usize,
-    lower: &[f64],
-    upper: &[f64],
-    emitted: usize,
-    row: &[usize],
-    rewritten: &[u8],
-    rhs: &[f64],
-    from: &[usize],
-    upto: &[usize],
-    index: &'a [usize],
-    coeff: &'a [f64],
-    term_index: &'a [usize],
-    term_coeff: &'a [f64],
-    validated: usize,
-    kept: &[usize],
-    out: &mut [u8],
-) -> Printed
-    ensures { outcome result out.new ≡ printed (answer_text kind counts vars lower.now upper.now emitted row.now
-        rewritten.now rhs.now from.now upto.now term_index.now term_coeff.now validated
-        kept.now) out.old }
+// Counts the text first, and writes it if it fits: how many bytes, or none where there is no room.
+fn print<T: Text>(text: &T, out: &mut [u8]) -> Option<usize>
+    ensures { outcome result out.new ≡ printed (T.bytes text.now) out.old }
 {
-    let cap = out.len() + 1;
-    let mut scratch = [0u8; 1];
-    let n = put_all(
-        kind,
-        counts,
-        vars,
-        lower,
-        upper,
-        emitted,
-        row,
-        rewritten,
-        rhs,
-        from,
-        upto,
-        index,
-        coeff,
-        term_index,
-        term_coeff,
-        validated,
-        kept,
-        &mut scratch,
-        0,
-        cap,
-    );
-    if out.len() < n {
-        return Printed::NoRoom;
+    let mut count = Count(0);
+    text.write(&mut count);
+    if out.len() < count.0 {
+        return None;
     }
-    let m = put_all(
-        kind, counts, vars, lower, upper, emitted, row, rewritten, rhs, from, upto, index, coeff,
-        term_index, term_coeff, validated, kept, out, 0, cap,
-    );
-    Printed::Bytes(m)
+    let mut buffer = Buffer {
+        bytes: out,
+        place: 0,
+    };
+    text.write(&mut buffer);
+    Some(buffer.place)
+}
+
+// Prints an answer.
+pub fn print_answer(answer: Answer<'_>, out: &mut [u8]) -> Option<usize>
+    ensures { outcome result out.new ≡ printed (answer_text answer.entry.kind answer.entry.counts
+        (length answer.entry.lower.now) answer.entry.lower.now answer.entry.upper.now (length answer.entry.rows.row.now)
+        answer.entry.rows.row.now answer.entry.rows.rewritten.now answer.entry.rows.rhs.now answer.entry.rows.from.now
+        answer.entry.rows.upto.now answer.entry.terms.index.now answer.entry.terms.coeff.now
+        (length answer.entry.kept.now) answer.entry.kept.now) out.old }
+{
+    print(&answer, out)
 }
 
 // Prints a refusal.
-pub fn print_refusal(n: u8, out: &mut [u8]) -> Printed
-    ensures { outcome result out.new ≡ printed (refused_line n) out.old }
+pub fn print_refusal(number: u8, out: &mut [u8]) -> Option<usize>
+    ensures { outcome result out.new ≡ printed (refused_line number) out.old }
 {
-    let cap = out.len() + 1;
-    let mut scratch = [0u8; 1];
-    let k = lines::put_refused(&mut scratch, 0, cap, n as usize);
-    if out.len() < k {
-        return Printed::NoRoom;
-    }
-    let m = lines::put_refused(out, 0, cap, n as usize);
-    Printed::Bytes(m)
+    print(&Refused(number), out)
 }
 
-// Prints whether a model is 01's farm model: k is the number of the condition that fails and i its place;
-// k is 0 where none does.
-pub fn print_numbers(k: usize, i: usize, out: &mut [u8]) -> Printed
-    ensures { outcome result out.new ≡ printed (numbers_line k i) out.old }
+// Prints whether a model is 01's farm model: the condition that fails, or none.
+pub fn print_numbers(off: Option<Off>, out: &mut [u8]) -> Option<usize>
+    ensures { outcome result out.new ≡ printed (numbers_text off) out.old }
 {
-    let cap = out.len() + 1;
-    let mut scratch = [0u8; 1];
-    let n = lines::put_numbers(&mut scratch, 0, cap, k, i);
-    if out.len() < n {
-        return Printed::NoRoom;
-    }
-    let m = lines::put_numbers(out, 0, cap, k, i);
-    Printed::Bytes(m)
+    print(&off, out)
 }

@@ -1,109 +1,90 @@
 // The lines of the text but those of the rows.
-ghost use Rattle.print_result.specs.Text.{Least, counts_line, bound_line, bound_lines, validate_line, validate_lines, refused_line, off_line, numbers_line};
-ghost use Rattle.print_result.specs.Page.{page, Poured};
+ghost use Rattle.std.specs.Prelude.{length};
+ghost use Rattle.print_result.specs.Text.{answer_line, counts_line, bound_line, bound_lines, validate_line, validate_lines, refused_line, off_line, whole_line};
 
-use crate::{Counts, put};
+use crate::Kind;
+use crate::put::{put_float, put_number, put_text};
+use crate::sink::Sink;
+use definition::Counts;
 
-pub(crate) fn least(a: usize, b: usize) -> usize
-    ensures { Least a b result }
+#[tactic(auto, unfolding(crate::specs::Text::ascii, crate::specs::Text::answer_line))]
+pub(crate) fn put_kind<S: Sink>(out: &mut S, kind: Kind)
+    ensures { S.wrote out.old (answer_line kind) out.new }
 {
-    if a < b {
-        return a;
+    match kind {
+        Kind::Reduced => put_text(out, b"answer reduced\n"),
+        Kind::Unchanged => put_text(out, b"answer unchanged\n"),
+        Kind::Infeasible => put_text(out, b"answer infeasible\n"),
     }
-    b
 }
 
-pub(crate) fn put_counts(out: &mut [u8], at: usize, cap: usize, k: Counts) -> usize
-    ensures { Poured cap (counts_line k) (page out.old at) (page out.new result) }
+pub(crate) fn put_counts<S: Sink>(out: &mut S, k: Counts)
+    ensures { S.wrote out.old (counts_line k) out.new }
 {
-    let a = put::put_text(out, at, cap, b"counts");
-    let b = put::put_number(out, a, cap, k.rows_dropped);
-    let c = put::put_number(out, b, cap, k.bounds_tightened);
-    let d = put::put_number(out, c, cap, k.vars_fixed);
-    let e = put::put_number(out, d, cap, k.coeffs_tightened);
-    let f = put::put_number(out, e, cap, k.passes);
-    put::put_byte(out, f, cap, 10)
+    put_text(out, b"counts");
+    put_number(out, k.rowsDropped);
+    put_number(out, k.boundsTightened);
+    put_number(out, k.varsFixed);
+    put_number(out, k.coeffsTightened);
+    put_number(out, k.passes);
+    out.put(b'\n');
 }
 
-fn put_bound(out: &mut [u8], at: usize, cap: usize, v: usize, lower: f64, upper: f64) -> usize
-    ensures { Poured cap (bound_line v lower upper) (page out.old at) (page out.new result) }
+fn put_bound<S: Sink>(out: &mut S, v: usize, lower: f64, upper: f64)
+    ensures { S.wrote out.old (bound_line v lower upper) out.new }
 {
-    let a = put::put_text(out, at, cap, b"bound");
-    let b = put::put_number(out, a, cap, v);
-    let c = put::put_float(out, b, cap, lower);
-    let d = put::put_float(out, c, cap, upper);
-    put::put_byte(out, d, cap, 10)
+    put_text(out, b"bound");
+    put_number(out, v);
+    put_float(out, lower);
+    put_float(out, upper);
+    out.put(b'\n');
 }
 
-pub(crate) fn put_bounds(
-    out: &mut [u8],
-    from: usize,
-    cap: usize,
-    vars: usize,
-    lower: &[f64],
-    upper: &[f64],
-) -> usize
-    ensures { Poured cap (bound_lines vars lower.now upper.now) (page out.old from) (page out.new result) }
+// Every bound. No `zip`: each line has its place too, and the place is what the invariant reads.
+pub(crate) fn put_bounds<S: Sink>(out: &mut S, lower: &[f64], upper: &[f64])
+    ensures { S.wrote out.old (bound_lines (length lower.now) lower.now upper.now) out.new }
 {
-    let n = least(vars, least(lower.len(), upper.len()));
-    let mut at = from;
-    let mut v = 0;
-    while v < n {
-        at = put_bound(out, at, cap, v, lower[v], upper[v]);
-        v += 1;
+    for v in 0..lower.len().min(upper.len()) {
+        put_bound(out, v, lower[v], upper[v]);
     }
-    at
 }
 
-fn put_validate(out: &mut [u8], at: usize, cap: usize, r: usize) -> usize
-    ensures { Poured cap (validate_line r) (page out.old at) (page out.new result) }
+fn put_validate<S: Sink>(out: &mut S, r: usize)
+    ensures { S.wrote out.old (validate_line r) out.new }
 {
-    let a = put::put_text(out, at, cap, b"validate");
-    let b = put::put_number(out, a, cap, r);
-    put::put_byte(out, b, cap, 10)
+    put_text(out, b"validate");
+    put_number(out, r);
+    out.put(b'\n');
 }
 
-pub(crate) fn put_kept(
-    out: &mut [u8],
-    from: usize,
-    cap: usize,
-    used: usize,
-    kept: &[usize],
-) -> usize
-    ensures { Poured cap (validate_lines used kept.now) (page out.old from) (page out.new result) }
+pub(crate) fn put_kept<S: Sink>(out: &mut S, kept: &[usize])
+    ensures { S.wrote out.old (validate_lines (length kept.now) kept.now) out.new }
 {
-    let n = least(used, kept.len());
-    let mut at = from;
-    let mut i = 0;
-    while i < n {
-        at = put_validate(out, at, cap, kept[i]);
-        i += 1;
+    for r in kept {
+        put_validate(out, *r);
     }
-    at
 }
 
-pub(crate) fn put_refused(out: &mut [u8], at: usize, cap: usize, n: usize) -> usize
-    ensures { Poured cap (refused_line n) (page out.old at) (page out.new result) }
+pub(crate) fn put_refused<S: Sink>(out: &mut S, n: usize)
+    ensures { S.wrote out.old (refused_line n) out.new }
 {
-    let a = put::put_text(out, at, cap, b"refused");
-    let b = put::put_number(out, a, cap, n);
-    put::put_byte(out, b, cap, 10)
+    put_text(out, b"refused");
+    put_number(out, n);
+    out.put(b'\n');
 }
 
-fn put_off(out: &mut [u8], at: usize, cap: usize, k: usize, i: usize) -> usize
-    ensures { Poured cap (off_line k i) (page out.old at) (page out.new result) }
+#[tactic(auto, unfolding(crate::specs::Text::ascii, crate::specs::Text::whole_line))]
+pub(crate) fn put_whole<S: Sink>(out: &mut S)
+    ensures { S.wrote out.old whole_line out.new }
 {
-    let a = put::put_text(out, at, cap, b"numbers");
-    let b = put::put_number(out, a, cap, k);
-    let c = put::put_number(out, b, cap, i);
-    put::put_byte(out, c, cap, 10)
+    put_text(out, b"numbers whole\n");
 }
 
-pub(crate) fn put_numbers(out: &mut [u8], at: usize, cap: usize, k: usize, i: usize) -> usize
-    ensures { Poured cap (numbers_line k i) (page out.old at) (page out.new result) }
+pub(crate) fn put_off<S: Sink>(out: &mut S, number: usize, place: usize)
+    ensures { S.wrote out.old (off_line number place) out.new }
 {
-    if k == 0 {
-        return put::put_text(out, at, cap, b"numbers whole\n");
-    }
-    put_off(out, at, cap, k, i)
+    put_text(out, b"numbers");
+    put_number(out, number);
+    put_number(out, place);
+    out.put(b'\n');
 }

@@ -1,116 +1,75 @@
 // The lines of the rows that are emitted.
 ghost use Rattle.std.specs.Prelude.{length};
 ghost use Rattle.print_result.specs.Text.{written_line, rewritten_line, term_line, term_lines, row_text, row_texts};
-ghost use Rattle.print_result.specs.Page.{page, Poured};
 
-use crate::{lines, put};
+use crate::put::{put_float, put_number, put_text};
+use crate::sink::Sink;
+use crate::{Emitted, Terms};
+use row_terms::Span;
 
-fn put_written(out: &mut [u8], at: usize, cap: usize, r: usize) -> usize
-    ensures { Poured cap (written_line r) (page out.old at) (page out.new result) }
+fn put_written<S: Sink>(out: &mut S, r: usize)
+    ensures { S.wrote out.old (written_line r) out.new }
 {
-    let a = put::put_text(out, at, cap, b"emit");
-    let b = put::put_number(out, a, cap, r);
-    put::put_text(out, b, cap, b" written\n")
+    put_text(out, b"emit");
+    put_number(out, r);
+    put_text(out, b" written\n");
 }
 
-fn put_rewritten(out: &mut [u8], at: usize, cap: usize, r: usize, rhs: f64) -> usize
-    ensures { Poured cap (rewritten_line r rhs) (page out.old at) (page out.new result) }
+fn put_rewritten<S: Sink>(out: &mut S, r: usize, rhs: f64)
+    ensures { S.wrote out.old (rewritten_line r rhs) out.new }
 {
-    let a = put::put_text(out, at, cap, b"emit");
-    let b = put::put_number(out, a, cap, r);
-    let c = put::put_text(out, b, cap, b" rewritten");
-    let d = put::put_float(out, c, cap, rhs);
-    put::put_byte(out, d, cap, 10)
+    put_text(out, b"emit");
+    put_number(out, r);
+    put_text(out, b" rewritten");
+    put_float(out, rhs);
+    out.put(b'\n');
 }
 
-fn put_term(out: &mut [u8], at: usize, cap: usize, v: usize, coeff: f64) -> usize
-    ensures { Poured cap (term_line v coeff) (page out.old at) (page out.new result) }
+fn put_term<S: Sink>(out: &mut S, v: usize, coeff: f64)
+    ensures { S.wrote out.old (term_line v coeff) out.new }
 {
-    let a = put::put_text(out, at, cap, b"term");
-    let b = put::put_number(out, a, cap, v);
-    let c = put::put_float(out, b, cap, coeff);
-    put::put_byte(out, c, cap, 10)
+    put_text(out, b"term");
+    put_number(out, v);
+    put_float(out, coeff);
+    out.put(b'\n');
 }
 
 // All terms of a row, as far as both parts have them.
-fn put_terms(out: &mut [u8], start: usize, cap: usize, vars: &[usize], coeffs: &[f64]) -> usize
-    ensures { Poured cap (term_lines 0 (length vars.now) vars.now coeffs.now) (page out.old start) (page out.new result) }
+fn put_terms<S: Sink>(out: &mut S, vars: &[usize], coeffs: &[f64])
+    ensures { S.wrote out.old (term_lines 0 (length vars.now) vars.now coeffs.now) out.new }
 {
-    let e = lines::least(vars.len(), coeffs.len());
-    let mut at = start;
-    let mut i = 0;
-    while i < e {
-        at = put_term(out, at, cap, vars[i], coeffs[i]);
-        i += 1;
+    for (v, coeff) in vars.iter().zip(coeffs) {
+        put_term(out, *v, *coeff);
     }
-    at
 }
 
 // A row by its mark: 0 is written, any other number rewritten. Only a rewritten row's terms are read.
-fn put_row<'a>(
-    out: &mut [u8],
-    at: usize,
-    cap: usize,
-    r: usize,
-    mark: u8,
-    rhs: f64,
-    from: usize,
-    upto: usize,
-    index: &'a [usize],
-    coeff: &'a [f64],
-    term_index: &'a [usize],
-    term_coeff: &'a [f64],
-) -> usize
-    ensures { Poured cap (row_text r mark rhs from upto term_index.now term_coeff.now) (page out.old at) (page out.new result) }
+fn put_row<S: Sink>(out: &mut S, r: usize, rhs: f64, span: Span, model: Terms<'_>, terms: Terms<'_>)
+    ensures { S.wrote out.old (row_text r span.mark rhs span.from span.upto terms.entry.index.now terms.entry.coeff.now) out.new }
 {
-    if mark != 0 {
-        let a = put_rewritten(out, at, cap, r, rhs);
-        let vars = row_terms::row_vars(index, term_index, mark, from, upto);
-        let coeffs = row_terms::row_coeffs(coeff, term_coeff, mark, from, upto);
-        return put_terms(out, a, cap, vars, coeffs);
+    if span.mark != 0 {
+        put_rewritten(out, r, rhs);
+        let vars = span.part(model.index, terms.index);
+        let coeffs = span.part(model.coeff, terms.coeff);
+        put_terms(out, vars, coeffs);
+    } else {
+        put_written(out, r);
     }
-    put_written(out, at, cap, r)
 }
 
-pub(crate) fn put_rows<'a>(
-    out: &mut [u8],
-    start: usize,
-    cap: usize,
-    emitted: usize,
-    row: &[usize],
-    rewritten: &[u8],
-    rhs: &[f64],
-    from: &[usize],
-    upto: &[usize],
-    index: &'a [usize],
-    coeff: &'a [f64],
-    term_index: &'a [usize],
-    term_coeff: &'a [f64],
-) -> usize
-    ensures { Poured cap (row_texts emitted row.now rewritten.now rhs.now from.now upto.now
-        term_index.now term_coeff.now) (page out.old start) (page out.new result) }
+// Every row. Five lists side by side have no `zip` that is plainer.
+pub(crate) fn put_rows<S: Sink>(out: &mut S, rows: Emitted<'_>, model: Terms<'_>, terms: Terms<'_>)
+    ensures { S.wrote out.old (row_texts (length rows.entry.row.now) rows.entry.row.now rows.entry.rewritten.now
+        rows.entry.rhs.now rows.entry.from.now rows.entry.upto.now terms.entry.index.now terms.entry.coeff.now) out.new }
 {
-    let spans = lines::least(from.len(), upto.len());
-    let facts = lines::least(row.len(), lines::least(rewritten.len(), rhs.len()));
-    let n = lines::least(emitted, lines::least(facts, spans));
-    let mut at = start;
-    let mut i = 0;
-    while i < n {
-        at = put_row(
-            out,
-            at,
-            cap,
-            row[i],
-            rewritten[i],
-            rhs[i],
-            from[i],
-            upto[i],
-            index,
-            coeff,
-            term_index,
-            term_coeff,
-        );
-        i += 1;
+    let spans = rows.from.len().min(rows.upto.len());
+    let facts = rows.row.len().min(rows.rewritten.len().min(rows.rhs.len()));
+    for i in 0..facts.min(spans) {
+        let span = Span {
+            mark: rows.rewritten[i],
+            from: rows.from[i],
+            upto: rows.upto[i],
+        };
+        put_row(out, rows.row[i], rows.rhs[i], span, model, terms);
     }
-    at
 }

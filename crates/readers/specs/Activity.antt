@@ -15,7 +15,7 @@ use Rattle.formulas.specs.Terms.{step_of, step_of_lem}
 use Rattle.view.specs.Call.{Call}
 use Rattle.view.specs.Shows.{Shows}
 use Rattle.view.specs.Inv.{Inv}
-use Rattle.view.specs.Lists.{yes, no, either}
+use Rattle.view.specs.Lists.{either}
 use Rattle.view.specs.Acts.{Ready, Reads, Any}
 use Rattle.view.specs.Known.{Spans}
 use Rattle.view.specs.Bounds.{wlo_is, whi_is, elo_is, ehi_is}
@@ -41,22 +41,28 @@ module _ {s : Shape} {f : Floats} (v : ℕ) (a lo hi : Float) (act : Activity) {
             ∙ step_of_lem M w lo hi (term v a) act p q);
       }
 
-  module _ {working : Bool} where
-    pub in_working : working ≡ true → lo ≡ get_or f.wlo v nan → hi ≡ get_or f.whi v nan → ReadsF Any s f z (λ M w. activity_step M w lo hi (term v a) act)
-        → ReadsF Any s f z (λ M w. activity_step M w (at (los_of working w) v) (at (his_of working w) v) (term v a) act)
-    in_working e el eh t =
-        record {
-          reads = λ M n o k w x c h i.
-              rw (yes w.wlo w.elo e, yes w.whi w.ehi e, ← wlo_is v h el, ← whi_is v h eh) (t.reads M n o k w x c h i);
-        }
+  pub in_box : (working : Bool) → ReadsF Any s f lo (λ M w. at (los_of working w) v) → ReadsF Any s f hi (λ M w. at (his_of working w) v)
+      → ReadsF Any s f z (λ M w. activity_step M w lo hi (term v a) act)
+      → ReadsF Any s f z (λ M w. activity_step M w (at (los_of working w) v) (at (his_of working w) v) (term v a) act)
+  in_box working el eh t = record { reads = λ M n o k w x c h i. rw (el.reads M n o k w tt c h i, eh.reads M n o k w tt c h i) (t.reads M n o k w x c h i) }
 
-    pub in_emitted : working ≡ false → lo ≡ get_or f.elo v nan → hi ≡ get_or f.ehi v nan → ReadsF Any s f z (λ M w. activity_step M w lo hi (term v a) act)
-        → ReadsF Any s f z (λ M w. activity_step M w (at (los_of working w) v) (at (his_of working w) v) (term v a) act)
-    in_emitted e el eh t =
-        record {
-          reads = λ M n o k w x c h i.
-              rw (no w.wlo w.elo e, no w.whi w.ehi e, ← elo_is v h el, ← ehi_is v h eh) (t.reads M n o k w x c h i);
-        }
+-- ---- a bound of either box
+module _ {s : Shape} {f : Floats} (v : ℕ) {x : Float} where
+  pub working_lo : x ≡ get_or f.wlo v nan → ReadsF Any s f x (λ M w. at (los_of true w) v)
+  unfolding choose
+  working_lo e = record { reads = λ M n o k w p c h i. sym (wlo_is v h e) }
+
+  pub working_hi : x ≡ get_or f.whi v nan → ReadsF Any s f x (λ M w. at (his_of true w) v)
+  unfolding choose
+  working_hi e = record { reads = λ M n o k w p c h i. sym (whi_is v h e) }
+
+  pub emitted_lo : x ≡ get_or f.elo v nan → ReadsF Any s f x (λ M w. at (los_of false w) v)
+  unfolding choose
+  emitted_lo e = record { reads = λ M n o k w p c h i. sym (elo_is v h e) }
+
+  pub emitted_hi : x ≡ get_or f.ehi v nan → ReadsF Any s f x (λ M w. at (his_of false w) v)
+  unfolding choose
+  emitted_hi e = record { reads = λ M n o k w p c h i. sym (ehi_is v h e) }
 
 -- a term adds one to each count of infinite terms, at most
 module _ (M : Model) (w : Work) (lo hi : Float) (t : Term) (act : Activity) where

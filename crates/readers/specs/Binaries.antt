@@ -1,5 +1,5 @@
 -- The rewritten binaries of an alive row: each is a term of the row or folded out of it, so its coefficient can be asked for, of the row at work and of the row as written.
-use Rattle.std.specs.Prelude.{ℕ, zero, suc, ◌+◌, ◌-◌, ◌<◌, ◌≡◌, refl, ◌⊎◌, Bool, true, false, not, ◌&&◌, ◌||◌, eqb, length, Float}
+use Rattle.std.specs.Prelude.{ℕ, zero, suc, ◌+◌, ◌<◌, ◌≡◌, refl, Bool, true, false, not, ◌&&◌, ◌||◌, eqb, length}
 use Rattle.std.proofs.Common.{arith, sym, ◌∙◌, subst, ⊎_elim, eqb-true}
 use Rattle.std.proofs.Math.Path.{ap}
 use mathlib.Core.List.{List, [], ◌∷◌, ◌++◌}
@@ -8,6 +8,7 @@ use Rattle.std.proofs.Math.ListN.{get_or}
 use Rattle.std.specs.Float.Ieee.{eq}
 use Rattle.floats.specs.Num.{0f}
 use Rattle.tolerances.specs.Tol.{Term}
+use Rattle.definition.specs.declared.Rows.{Rows}
 use Rattle.definition.specs.Model.{Model, from, nnz, written, Row, Binding}
 use Rattle.definition.specs.Work.{Work, has_term}
 use Rattle.definition.specs.Choices.{and_left}
@@ -68,16 +69,16 @@ module _ {M : Model} {s : Shape} {f : Floats} {n : Numbers} {o : List ℕ} {w : 
   binary_written = has_all v (row_inv c h p a u).all_in binary_has
 
 -- ---- the state that `Ready` has
-module _ {s : Shape} {f : Floats} {n : Numbers} {ss is : List ℕ} {cs : List Float} {os : List ℕ} {bs : List Float} {r k : ℕ}
-    (R : Ready (Written ss is cs os bs) s f n) (p : r < s.rows) (a : Alive n r) (l : k < get_or n.binaries r 0) where
-  from_is : from R.model r ≡ get_or ss r 0
+module _ {s : Shape} {f : Floats} {n : Numbers} {rows : Rows} {r k : ℕ}
+    (R : Ready (Written rows) s f n) (p : r < s.rows) (a : Alive n r) (l : k < get_or n.binaries r 0) where
+  from_is : from R.model r ≡ get_or rows.starts.now r 0
   unfolding from
   from_is = ap (λ (x : List ℕ). get_or x r 0) R.known.starts
 
-  here : {v : ℕ} → v ≡ get_or n.binary (get_or ss r 0 + k) 0 → v ≡ get_or n.binary (from R.model r + k) 0
+  here : {v : ℕ} → v ≡ get_or n.binary (get_or rows.starts.now r 0 + k) 0 → v ≡ get_or n.binary (from R.model r + k) 0
   here e = e ∙ ap (λ (x : ℕ). get_or n.binary (x + k) 0) (sym from_is)
 
-  pub ready_written : {v : ℕ} → v ≡ get_or n.binary (get_or ss r 0 + k) 0 → ReadyWritten is cs (get_or ss r 0) v
+  pub ready_written : {v : ℕ} → v ≡ get_or n.binary (get_or rows.starts.now r 0 + k) 0 → ReadyWritten rows.index.now rows.coeff.now (get_or rows.starts.now r 0) v
   ready_written {v} e =
       record {
         model = R.model;

@@ -6,7 +6,7 @@ use Rattle.std.proofs.Math.Option.{Option, some}
 use Rattle.std.proofs.Math.ListN.{get_or-append}
 use Rattle.std.specs.Float.{nan}
 use Rattle.floats.specs.Num.{choose, 0f}
-use Rattle.tolerances.specs.Tol.{Term, at}
+use Rattle.tolerances.specs.Tol.{Term}
 use Rattle.definition.specs.Model.{Model, Row, coeff_in, or_else, coeff_of}
 use Rattle.definition.specs.Work.{Work, no_term, has_term}
 use Rattle.space.specs.declared.Shape.{Shape}

@@ -1,7 +1,7 @@
 -- A row as written, judged where its variables are fixed: the walk over its terms, and the verdict.
 use Prim.Native.Nat.{ℕ, suc, ◌+◌, ◌-◌, ◌≤◌, ◌<◌}
 use Rattle.std.proofs.Common.{arith, add-one, sym, ◌∙◌}
-use Rattle.std.specs.Prelude.{◌≡◌, refl, Bool, true, false, not, ◌&&◌, take, drop, Float}
+use Rattle.std.specs.Prelude.{Option, unwrap_or, ◌≡◌, refl, Bool, true, false, not, ◌&&◌, take, drop, Float}
 use Rattle.std.proofs.Math.Path.{ap}
 use mathlib.Core.List.{List, [], ◌∷◌}
 use Rattle.std.proofs.Math.ListN.{length, get_or, length-take, length-drop}
@@ -11,9 +11,9 @@ use Rattle.cdouble.specs.declared.CDouble.{CDouble}
 use Rattle.tolerances.specs.Tol.{Term, term, zip_terms, trivial_verdict, says_true, implied_slack, violated, row_start, row_term, row_slack, slack_violates}
 use Rattle.tolerances.specs.declared.RowSum.{RowSum}
 use Rattle.tolerances.specs.declared.Implied.{Implied}
-use Rattle.tolerances.specs.declared.Verdict.{Verdict}
-use Rattle.tolerances.specs.Answers.{sum_of, pair_of, verdict_of}
+use Rattle.tolerances.specs.Answers.{sum_of, pair_of, option_of, says_unwrap}
 use Rattle.tolerances.specs.Terms.{row_from, slack_by_terms, violated_by_slack}
+use Rattle.definition.specs.declared.Rows.{Rows}
 use Rattle.definition.specs.Model.{Model, from, upto, nnz, written, op_of, rhs_of}
 use Rattle.definition.specs.Work.{Work}
 use Rattle.definition.specs.Singles.{fixed_value}
@@ -95,22 +95,22 @@ when_false : {a : Bool} (b : Bool) → a ≡ false → (not a && b) ≡ b
 when_false b e = rw e
 
 -- ---- row r as written, in the slices
-pub record SpanAt (s : Shape) (ss is : List ℕ) (cs : List Float) (os : List ℕ) (bs : List Float) (r : ℕ) : Type 0 where
-  pub starts : r + 1 < length ss
-  pub cmps : r < length os
-  pub rhss : r < length bs
-  pub rise : get_or ss r 0 ≤ get_or ss (r + 1) 0
-  pub indices : get_or ss (r + 1) 0 ≤ length is
-  pub coeffs : length cs ≡ length is
-  pub below : Below s.vars is
+pub record SpanAt (s : Shape) (rows : Rows) (r : ℕ) : Type 0 where
+  pub starts : r + 1 < length rows.starts.now
+  pub cmps : r < length rows.cmp.now
+  pub rhss : r < length rows.rhs.now
+  pub rise : get_or rows.starts.now r 0 ≤ get_or rows.starts.now (r + 1) 0
+  pub indices : get_or rows.starts.now (r + 1) 0 ≤ length rows.index.now
+  pub coeffs : length rows.coeff.now ≡ length rows.index.now
+  pub below : Below s.vars rows.index.now
 
-module _ {s : Shape} {ss is : List ℕ} {cs : List Float} {os : List ℕ} {bs : List Float} {r : ℕ} where
-  pub span_at : {M : Model} → Written ss is cs os bs M → Call M s → r < s.rows → SpanAt s ss is cs os bs r
+module _ {s : Shape} {rows : Rows} {r : ℕ} where
+  pub span_at : {M : Model} → Written rows M → Call M s → r < s.rows → SpanAt s rows r
   unfolding from upto
   span_at {M} k c p =
       let q : r < length M.rhs = omega (arith, p, c.rows) in
-      let a₁ : get_or M.starts r 0 ≡ get_or ss r 0 = ap (λ (l : List ℕ). get_or l r 0) k.starts in
-      let a₂ : get_or M.starts (r + 1) 0 ≡ get_or ss (r + 1) 0 = ap (λ (l : List ℕ). get_or l (r + 1) 0) k.starts in
+      let a₁ : get_or M.starts r 0 ≡ get_or rows.starts.now r 0 = ap (λ (l : List ℕ). get_or l r 0) k.starts in
+      let a₂ : get_or M.starts (r + 1) 0 ≡ get_or rows.starts.now (r + 1) 0 = ap (λ (l : List ℕ). get_or l (r + 1) 0) k.starts in
       record {
         starts = omega (arith, q, c.starts, ap length k.starts);
         cmps = omega (arith, q, c.cmps, ap length k.cmp);
@@ -119,59 +119,59 @@ module _ {s : Shape} {ss is : List ℕ} {cs : List Float} {os : List ℕ} {bs : 
         indices = omega (arith, c.last r q, a₂, ap length k.index);
         coeffs = omega (arith, c.coeffs, ap length k.coeff, ap length k.index);
         below = record {
-          below = λ i l. let z : get_or M.index i 0 ≡ get_or is i 0 = ap (λ (x : List ℕ). get_or x i 0) k.index in omega (arith, z, c.vars, c.index i (omega (arith, l, ap length k.index)));
+          below = λ i l. let z : get_or M.index i 0 ≡ get_or rows.index.now i 0 = ap (λ (x : List ℕ). get_or x i 0) k.index in omega (arith, z, c.vars, c.index i (omega (arith, l, ap length k.index)));
         };
       }
 
-  pub span_ready : {f : Floats} → ReadyF (Written ss is cs os bs) s f → r < s.rows → SpanAt s ss is cs os bs r
+  pub span_ready : {f : Floats} → ReadyF (Written rows) s f → r < s.rows → SpanAt s rows r
   span_ready R p = span_at R.ready.known R.ready.call p
 
-  span_length : SpanAt s ss is cs os bs r → length (span_terms is cs (get_or ss r 0) (get_or ss (r + 1) 0)) ≡ get_or ss (r + 1) 0 - get_or ss r 0
+  span_length : SpanAt s rows r → length (span_terms rows.index.now rows.coeff.now (get_or rows.starts.now r 0) (get_or rows.starts.now (r + 1) 0)) ≡ get_or rows.starts.now (r + 1) 0 - get_or rows.starts.now r 0
   unfolding span_terms
   span_length x =
-      let a = get_or ss r 0 in
-      let e = get_or ss (r + 1) 0 in
-      let u = length-take (e - a) (drop a is) in
-      let u₁ = length-drop a is in
-      let v = length-take (e - a) (drop a cs) in
-      let v₁ = length-drop a cs in
-      zip_length (take (e - a) (drop a is)) (take (e - a) (drop a cs)) (omega (arith, u, u₁, v, v₁, x.coeffs)) ∙ omega (arith, u, u₁, x.indices)
+      let a = get_or rows.starts.now r 0 in
+      let e = get_or rows.starts.now (r + 1) 0 in
+      let u = length-take (e - a) (drop a rows.index.now) in
+      let u₁ = length-drop a rows.index.now in
+      let v = length-take (e - a) (drop a rows.coeff.now) in
+      let v₁ = length-drop a rows.coeff.now in
+      zip_length (take (e - a) (drop a rows.index.now)) (take (e - a) (drop a rows.coeff.now)) (omega (arith, u, u₁, v, v₁, x.coeffs)) ∙ omega (arith, u, u₁, x.indices)
 
 -- its terms, its comparison and its right side
-module _ {ss is : List ℕ} {cs : List Float} {os : List ℕ} {bs : List Float} (r : ℕ) {M : Model} (k : Written ss is cs os bs M) where
-  pub written_is : written M r ≡ span_terms is cs (get_or ss r 0) (get_or ss (r + 1) 0)
+module _ {rows : Rows} (r : ℕ) {M : Model} (k : Written rows M) where
+  pub written_is : written M r ≡ span_terms rows.index.now rows.coeff.now (get_or rows.starts.now r 0) (get_or rows.starts.now (r + 1) 0)
   unfolding written nnz from upto span_terms
   written_is = rw (k.starts, k.index, k.coeff)
 
-  pub rhs_is : rhs_of M r ≡ get_or bs r nan
+  pub rhs_is : rhs_of M r ≡ get_or rows.rhs.now r nan
   unfolding rhs_of
   rhs_is = ap (λ (l : List Float). get_or l r nan) k.rhs
 
-  pub op_is : op_of M r ≡ get_or os r 0
+  pub op_is : op_of M r ≡ get_or rows.cmp.now r 0
   unfolding op_of
   op_is = ap (λ (l : List ℕ). get_or l r 0) k.cmp
 
   module _ {s : Shape} (c : Call M s) (p : r < s.rows) where
-    trivial_is : trivial_verdict M.feas (op_of M r) (length (written M r)) (rhs_of M r) ≡ trivial_verdict s.feas (get_or os r 0) (get_or ss (r + 1) 0 - get_or ss r 0) (get_or bs r nan)
+    trivial_is : trivial_verdict M.feas (op_of M r) (length (written M r)) (rhs_of M r) ≡ trivial_verdict s.feas (get_or rows.cmp.now r 0) (get_or rows.starts.now (r + 1) 0 - get_or rows.starts.now r 0) (get_or rows.rhs.now r nan)
     trivial_is =
-        let l : length (written M r) ≡ get_or ss (r + 1) 0 - get_or ss r 0 = ap length written_is ∙ span_length (span_at k c p) in
+        let l : length (written M r) ≡ get_or rows.starts.now (r + 1) 0 - get_or rows.starts.now r 0 = ap length written_is ∙ span_length (span_at k c p) in
         ap (λ (x : Float). trivial_verdict x (op_of M r) (length (written M r)) (rhs_of M r)) (sym c.feas) ∙ ap (λ (x : ℕ). trivial_verdict s.feas x (length (written M r)) (rhs_of M r)) op_is
-        ∙ ap (λ (x : ℕ). trivial_verdict s.feas (get_or os r 0) x (rhs_of M r)) l ∙ ap (trivial_verdict s.feas (get_or os r 0) (get_or ss (r + 1) 0 - get_or ss r 0)) rhs_is
+        ∙ ap (λ (x : ℕ). trivial_verdict s.feas (get_or rows.cmp.now r 0) x (rhs_of M r)) l ∙ ap (trivial_verdict s.feas (get_or rows.cmp.now r 0) (get_or rows.starts.now (r + 1) 0 - get_or rows.starts.now r 0)) rhs_is
 
-    says_is : (t : Verdict) {y : Bool} → verdict_of t ≡ trivial_verdict s.feas (get_or os r 0) (get_or ss (r + 1) 0 - get_or ss r 0) (get_or bs r nan) → y ≡ says_true (verdict_of t)
+    says_is : (t : Option Bool) {y : Bool} → option_of t ≡ trivial_verdict s.feas (get_or rows.cmp.now r 0) (get_or rows.starts.now (r + 1) 0 - get_or rows.starts.now r 0) (get_or rows.rhs.now r nan) → y ≡ unwrap_or t false
         → says_true (trivial_verdict M.feas (op_of M r) (length (written M r)) (rhs_of M r)) ≡ y
-    says_is t et ey = sym (ey ∙ ap says_true (et ∙ sym trivial_is))
+    says_is t et ey = sym (ey ∙ says_unwrap t ∙ ap says_true (et ∙ sym trivial_is))
 
-    verdict_is : (m : Float × Float) → slack_violates M.feas (op_of M r) m ≡ slack_violates s.feas (get_or os r 0) m
+    verdict_is : (m : Float × Float) → slack_violates M.feas (op_of M r) m ≡ slack_violates s.feas (get_or rows.cmp.now r 0) m
     verdict_is m = ap (λ (x : Float). slack_violates x (op_of M r) m) (sym c.feas) ∙ ap (λ (x : ℕ). slack_violates s.feas x m) op_is
 
-    sum_is : (w : Work) → row_from (fixed_value w) (row_start (rhs_of M r)) (written M r) ≡ row_from (fixed_value w) (row_start (get_or bs r nan)) (span_terms is cs (get_or ss r 0) (get_or ss (r + 1) 0))
-    sum_is w = ap (row_from (fixed_value w) (row_start (rhs_of M r))) written_is ∙ ap (λ (x : Float). row_from (fixed_value w) (row_start x) (span_terms is cs (get_or ss r 0) (get_or ss (r + 1) 0))) rhs_is
+    sum_is : (w : Work) → row_from (fixed_value w) (row_start (rhs_of M r)) (written M r) ≡ row_from (fixed_value w) (row_start (get_or rows.rhs.now r nan)) (span_terms rows.index.now rows.coeff.now (get_or rows.starts.now r 0) (get_or rows.starts.now (r + 1) 0))
+    sum_is w = ap (row_from (fixed_value w) (row_start (rhs_of M r))) written_is ∙ ap (λ (x : Float). row_from (fixed_value w) (row_start x) (span_terms rows.index.now rows.coeff.now (get_or rows.starts.now r 0) (get_or rows.starts.now (r + 1) 0))) rhs_is
 
--- ---- empty_row_violated, by whether the row is trivially true
-module _ {s : Shape} {f : Floats} {ss is : List ℕ} {cs : List Float} {os : List ℕ} {bs : List Float} {r : ℕ} (p : r < s.rows) (t : Verdict) {y : Bool}
-    (et : verdict_of t ≡ trivial_verdict s.feas (get_or os r 0) (get_or ss (r + 1) 0 - get_or ss r 0) (get_or bs r nan)) (ey : y ≡ says_true (verdict_of t)) where
-  pub empty_true : y ≡ true → ReadsF (Written ss is cs os bs) s f false (λ M w. violated M.feas (op_of M r) (written M r) (rhs_of M r) (fixed_value w))
+-- ---- empty_row_violated, by whether the row rows.index.now trivially true
+module _ {s : Shape} {f : Floats} {rows : Rows} {r : ℕ} (p : r < s.rows) (t : Option Bool) {y : Bool}
+    (et : option_of t ≡ trivial_verdict s.feas (get_or rows.cmp.now r 0) (get_or rows.starts.now (r + 1) 0 - get_or rows.starts.now r 0) (get_or rows.rhs.now r nan)) (ey : y ≡ unwrap_or t false) where
+  pub empty_true : y ≡ true → ReadsF (Written rows) s f false (λ M w. violated M.feas (op_of M r) (written M r) (rhs_of M r) (fixed_value w))
   empty_true e =
       record {
         reads = λ M n o j w k c h i.
@@ -180,8 +180,8 @@ module _ {s : Shape} {f : Floats} {ss is : List ℕ} {cs : List Float} {os : Lis
       }
 
   pub empty_judged : (u : RowSum) (m : Implied) {z : Bool} → y ≡ false
-      → ReadsF Any s f (sum_of u) (λ M w. row_from (fixed_value w) (row_start (get_or bs r nan)) (span_terms is cs (get_or ss r 0) (get_or ss (r + 1) 0))) → pair_of m ≡ row_slack (sum_of u)
-      → z ≡ slack_violates s.feas (get_or os r 0) (pair_of m) → ReadsF (Written ss is cs os bs) s f z (λ M w. violated M.feas (op_of M r) (written M r) (rhs_of M r) (fixed_value w))
+      → ReadsF Any s f (sum_of u) (λ M w. row_from (fixed_value w) (row_start (get_or rows.rhs.now r nan)) (span_terms rows.index.now rows.coeff.now (get_or rows.starts.now r 0) (get_or rows.starts.now (r + 1) 0))) → pair_of m ≡ row_slack (sum_of u)
+      → z ≡ slack_violates s.feas (get_or rows.cmp.now r 0) (pair_of m) → ReadsF (Written rows) s f z (λ M w. violated M.feas (op_of M r) (written M r) (rhs_of M r) (fixed_value w))
   empty_judged u m {z} e v em ez =
       record {
         reads = λ M n o j w k c h i.

@@ -1,5 +1,5 @@
--- The four floats of an alive row.
-use Rattle.std.specs.Prelude.{ℕ, ◌<◌, ◌≡◌, List, get_or, Float}
+-- The four floats of an alive row, and how many terms it has as written, as the caller counted them.
+use Rattle.std.specs.Prelude.{ℕ, ◌<◌, ◌≡◌, refl, List, get_or, Float}
 use Rattle.std.proofs.Common.{◌∙◌}
 use Rattle.std.specs.Float.{nan}
 use Rattle.definition.specs.Model.{Model}
@@ -14,15 +14,19 @@ use Rattle.readers.specs.Reading.{row_of, Alive}
 use Rattle.readers.specs.RowAt.{row_shown}
 
 -- x is row r's, in whatever state the floats show with the row alive
-pub record ReadsLimits (s : Shape) (f : Floats) (r : ℕ) (x : Limits) : Type 0 where
+pub record ReadsLimits (s : Shape) (f : Floats) (r count : ℕ) (x : Limits) : Type 0 where
   pub has : (M : Model) (n : Numbers) (o : List ℕ) (w : Work) → Call M s → Shows M f n o w → Alive n r → Has x (row_of w r)
+  pub feas : x.feas ≡ s.feas
+  pub terms : x.terms ≡ count
 
 module _ {s : Shape} {f : Floats} (r : ℕ) (p : r < s.rows) where
-  pub limits_read : {lo hi scale shift : Float} → lo ≡ get_or f.lo r nan → hi ≡ get_or f.hi r nan → scale ≡ get_or f.fold_scale r nan → shift ≡ get_or f.shift r nan
-      → ReadsLimits s f r (record { lo = lo; hi = hi; fold_scale = scale; shift = shift })
+  pub limits_read : {lo hi scale shift : Float} {terms : ℕ} → lo ≡ get_or f.lo r nan → hi ≡ get_or f.hi r nan → scale ≡ get_or f.fold_scale r nan → shift ≡ get_or f.shift r nan
+      → ReadsLimits s f r terms (record { lo = lo; hi = hi; fold_scale = scale; shift = shift; feas = s.feas; terms = terms })
   limits_read e₁ e₂ e₃ e₄ =
       record {
         has = λ M n o w c h a.
             let x = row_shown c h p a in
             record { lo = e₁ ∙ x.lo; hi = e₂ ∙ x.hi; fold_scale = e₃ ∙ x.fold_scale; shift = e₄ ∙ x.shift };
+        feas = refl;
+        terms = refl;
       }

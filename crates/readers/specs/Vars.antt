@@ -12,6 +12,7 @@ use Rattle.definition.specs.Singles.{fixed_value}
 use Rattle.definition.specs.Choices.{and_left, and_right}
 use Rattle.space.specs.declared.Shape.{Shape}
 use Rattle.space.specs.Store.{Floats, Numbers}
+use Rattle.formulas.specs.declared.Ends.{Ends}
 use Rattle.formulas.specs.Fixing.{int_domain, int_domain_of, fixed_at, fixed_of}
 use Rattle.view.specs.Shows.{Shows}
 use Rattle.view.specs.Lists.{yes, no}
@@ -36,8 +37,8 @@ module _ {ds : List ℕ} (v : ℕ) {z : Bool} where
     pub int_mip : s.mip ≡ true → Tells (Domains ds) z (λ M. is_int_domain M v) → ReadsM (Domains ds) s z (λ M. is_int M v)
     int_mip e t = record { reads = λ M d c. mip_is M v (sym c.mip ∙ e) (t.tells M d) }
 
-pub int_lp : {ds : List ℕ} {s : Shape} (v : ℕ) → s.mip ≡ false → ReadsM (Domains ds) s false (λ M. is_int M v)
-int_lp v e = record { reads = λ M d c. lp_is M v (sym c.mip ∙ e) }
+pub int_lp : {ds : List ℕ} {s : Shape} (v : ℕ) → s.mip ≡ false → ReadsM (Domains ds) s s.mip (λ M. is_int M v)
+int_lp v e = record { reads = λ M d c. lp_is M v (sym c.mip ∙ e) ∙ sym e }
 
 -- ---- bound_tol
 module _ {s : Shape} {f : Floats} (v : ℕ) {upper : Bool} {x z : Float} where
@@ -85,3 +86,10 @@ module _ {f : Floats} (v : ℕ) {lo hi : Float} {b : Bool} (el : lo ≡ get_or f
     pub value_free : b ≡ false → ReadsF Any s f 0f (λ M w. fixed_value w v)
     unfolding fixed_value
     value_free t = record { reads = λ M n o k w p c h i. no _ _ (fixed_is h ∙ t) }
+
+-- ---- the emitted bounds of v, each with its tolerance
+pub record ReadsEnds (s : Shape) (f : Floats) (v : ℕ) (e : Ends) : Type 0 where
+  pub lo : e.lo ≡ get_or f.elo v nan
+  pub hi : e.hi ≡ get_or f.ehi v nan
+  pub tol_lo : ReadsF Any s f e.tol_lo (λ M w. bound_tol M w v false)
+  pub tol_hi : ReadsF Any s f e.tol_hi (λ M w. bound_tol M w v true)

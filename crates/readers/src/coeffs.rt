@@ -9,7 +9,7 @@ ghost use Rattle.readers.specs.Reading.{row_of, Alive};
 ghost use Rattle.readers.specs.Coeffs.{place_of, ReadyTerm};
 ghost use Rattle.readers.specs.WrittenCoeffs.{ReadyWritten, ReadsWritten};
 
-use space::Shape;
+use space::{Coeffs, Len, Shape, Vars};
 
 // Where term k of a row stands whose span is a up to e, with n live terms: the live ones come first,
 // then the folded ones.
@@ -17,13 +17,11 @@ pub fn place(a: usize, e: usize, n: usize, k: usize) -> usize
     requires { (a + n ≤ e) × (k < e - a) }
     ensures { result ≡ place_of a e n k }
 {
-    if k < n {
-        return a + k;
-    }
-    e - 1 - (k - n)
+    if k < n { a + k } else { e - 1 - (k - n) }
 }
 
-// = coeff_of: the walk ends at the variable, since the row has it.
+// = coeff_of. A loop that yields the coefficient by its break, as a rule of the project has this walk: the
+// row has the variable, so there is no end to count to.
 pub fn row_coeff(starts: &[usize], w: &[f64], m: &[usize], s: Shape, r: usize, v: usize) -> f64
     requires r_lt_rows { (r < s.rows) × HoldsF s w.now × HoldsN s m.now × Alive (numbers_of s m.now) r }
     requires ready_term { ReadyTerm (Spans starts.now) s (floats_of s w.now) (numbers_of s m.now) r v }
@@ -31,31 +29,29 @@ pub fn row_coeff(starts: &[usize], w: &[f64], m: &[usize], s: Shape, r: usize, v
 {
     let a = starts[r];
     let e = starts[r + 1];
-    let n = space::get_len(m, s, r);
+    let n = space::get::<Len>(m, s, r);
     let mut k = 0;
     let x = loop {
         let i = place(a, e, n, k);
-        let t = space::get_var(m, s, i);
-        if t == v {
-            break space::get_coeff(w, s, i);
+        if space::get::<Vars>(m, s, i) == v {
+            break space::get::<Coeffs>(w, s, i);
         }
         k += 1;
     };
     x
 }
 
-// The coefficient in the row as written that starts at `start`, which has the variable.
+// The coefficient in the row as written that starts at `start`, which has the variable: the walk ends at it.
+// A `for` that returns it: `position` would count its place from `start`, which had to be added again, and
+// would have a None to answer that cannot be.
 pub fn written_coeff(index: &[usize], coeff: &[f64], start: usize, v: usize) -> f64
     requires { ReadyWritten index.now coeff.now start v }
     ensures { ReadsWritten index.now coeff.now start v result }
 {
-    let mut i = start;
-    let x = loop {
-        let t = index[i];
-        if t == v {
-            break coeff[i];
+    for i in start..index.len() {
+        if index[i] == v {
+            return coeff[i];
         }
-        i += 1;
-    };
-    x
+    }
+    0.0
 }

@@ -1,8 +1,9 @@
 // `empty_row_consistent` of src/presolve/work.rs of microlp 0.7.0, changed: whether the row as written
 // is violated where every variable of it is fixed.
-ghost use Rattle.std.specs.Prelude.{◌≤◌, ◌<◌, length};
-ghost use Rattle.tolerances.specs.Tol.{violated, row_start};
-ghost use Rattle.tolerances.specs.Answers.{sum_of};
+ghost use Rattle.std.specs.Prelude.{◌≡◌, ◌+◌, ◌-◌, ◌≤◌, ◌<◌, length, get_or};
+ghost use Rattle.std.specs.Float.{nan};
+ghost use Rattle.tolerances.specs.Tol.{trivial_verdict, violated, row_start};
+ghost use Rattle.tolerances.specs.Answers.{option_of, sum_of};
 ghost use Rattle.tolerances.specs.Terms.{row_from};
 ghost use Rattle.definition.specs.Model.{written, op_of, rhs_of};
 ghost use Rattle.definition.specs.Singles.{fixed_value};
@@ -14,10 +15,19 @@ ghost use Rattle.readers.specs.Reading.{ReadyF, ReadsF};
 ghost use Rattle.readers.specs.Empty.{span_terms};
 
 use crate::vars::fixed_value;
+use definition::Rows;
 use space::Shape;
-use tolerances::{
-    RowSum, row_slack, row_start, row_term, says_true, slack_violates, trivial_row_verdict,
-};
+use tolerances::{RowSum, trivial_row_verdict};
+
+// Of row r as handed in.
+pub fn verdict(rows: Rows, s: Shape, r: usize) -> Option<bool>
+    requires { (r + 1 < length rows.starts.now) × (r < length rows.cmp.now) × (r < length rows.rhs.now) × (get_or rows.starts.now r 0 ≤ get_or rows.starts.now (r + 1) 0) }
+    ensures { option_of result ≡ trivial_verdict s.feas (get_or rows.entry.cmp.now r 0) (get_or rows.entry.starts.now (r + 1) 0 - get_or rows.entry.starts.now r 0) (get_or rows.entry.rhs.now r nan) }
+{
+    let a = rows.starts[r];
+    let e = rows.starts[r + 1];
+    trivial_row_verdict(e - a, rows.cmp[r], rows.rhs[r], s.feas)
+}
 
 // The sum over the terms as written that stand at a up to e, from a right side.
 fn fixed_sum(
@@ -33,43 +43,25 @@ fn fixed_sum(
     requires below { Below s.vars index.now }
     ensures { ReadsF Any s (floats_of s w.now) (sum_of result) (λ M u. row_from (fixed_value u) (row_start b) (span_terms index.now coeff.now a e)) }
 {
-    let mut sum = row_start(b);
-    let mut i = a;
-    while i < e {
-        let v = index[i];
-        let x = coeff[i];
-        sum = row_term(sum, x, fixed_value(w, s, v));
-        i += 1;
+    let mut sum = RowSum::start(b);
+    for i in a..e {
+        sum = sum.with(coeff[i], fixed_value(w, s, index[i]));
     }
     sum
 }
 
 // = violated at fixed_value
-pub fn empty_row_violated(
-    starts: &[usize],
-    index: &[usize],
-    coeff: &[f64],
-    cmp: &[u8],
-    rhs: &[f64],
-    w: &[f64],
-    s: Shape,
-    r: usize,
-) -> bool
+pub fn empty_row_violated(rows: Rows, w: &[f64], s: Shape, r: usize) -> bool
     requires r_lt_rows { (r < s.rows) × HoldsF s w.now }
-    requires ready_f { ReadyF (Written starts.now index.now coeff.now cmp.now rhs.now) s (floats_of s w.now) }
-    ensures { ReadsF (Written starts.now index.now coeff.now cmp.now rhs.now) s
-        (floats_of s w.now) result (λ M u. violated M.feas (op_of M r) (written M r) (rhs_of M r) (fixed_value u)) }
+    requires ready_f { ReadyF (Written rows) s (floats_of s w.now) }
+    ensures { ReadsF (Written rows.entry) s (floats_of s w.now) result (λ M u. violated M.feas (op_of M r) (written M r) (rhs_of M r) (fixed_value u)) }
 {
-    let a = starts[r];
-    let e = starts[r + 1];
-    let op = cmp[r];
-    let b = rhs[r];
-    if says_true(trivial_row_verdict(e - a, op, b, s.feas)) {
+    if verdict(rows, s, r).unwrap_or(false) {
         return false;
     }
-    slack_violates(
-        op,
-        row_slack(fixed_sum(index, coeff, w, s, a, e, b)),
-        s.feas,
-    )
+    let a = rows.starts[r];
+    let e = rows.starts[r + 1];
+    fixed_sum(rows.index, rows.coeff, w, s, a, e, rows.rhs[r])
+        .slack()
+        .violates(rows.cmp[r], s.feas)
 }

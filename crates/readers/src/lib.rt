@@ -2,12 +2,14 @@
 // Each function's result is the definition's, of whatever state the working slices show.
 #![tactic(auto)]
 
+mod boxes;
 mod coeffs;
 mod empty;
 mod rows;
 mod vars;
 
+pub use boxes::{Bounds, Emitted, Working};
 pub use coeffs::{place, row_coeff, written_coeff};
-pub use empty::empty_row_violated;
-pub use rows::{activity, limits, working_activity};
-pub use vars::{bound_tol, is_int, is_int_domain};
+pub use empty::{empty_row_violated, verdict};
+pub use rows::{activity, limits};
+pub use vars::{bound_tol, emitted, is_int, is_int_domain};

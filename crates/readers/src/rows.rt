@@ -12,21 +12,24 @@ ghost use Rattle.readers.specs.Reading.{row_of, Alive, ReadsF};
 ghost use Rattle.readers.specs.Limits.{ReadsLimits};
 ghost use Rattle.readers.specs.Activity.{los_of, his_of};
 
+use crate::boxes::Bounds;
 use crate::vars::bound_tol;
 use definition::Activity;
-use formulas::{Limits, activity_step, no_activity};
-use space::Shape;
+use formulas::{Ends, Limits, activity_step, no_activity};
+use space::{Coeffs, Ehi, Elo, FoldScale, Hi, Len, Lo, Shape, Shift, Vars};
 
-// The row's four floats.
-pub fn limits(w: &[f64], s: Shape, r: usize) -> Limits
+// The row's four floats, beside how many terms it has as written.
+pub fn limits(w: &[f64], s: Shape, r: usize, terms: usize) -> Limits
     requires { (r < s.rows) × HoldsF s w.now }
-    ensures { ReadsLimits s (floats_of s w.now) r result }
+    ensures { ReadsLimits s (floats_of s w.now) r terms result }
 {
     Limits {
-        lo: space::get_lo(w, s, r),
-        hi: space::get_hi(w, s, r),
-        fold_scale: space::get_fold_scale(w, s, r),
-        shift: space::get_shift(w, s, r),
+        lo: space::get::<Lo>(w, s, r),
+        hi: space::get::<Hi>(w, s, r),
+        fold_scale: space::get::<FoldScale>(w, s, r),
+        shift: space::get::<Shift>(w, s, r),
+        feas: s.feas,
+        terms,
     }
 }
 
@@ -35,84 +38,59 @@ fn usual_bounds(w: &[f64], s: Shape, v: usize) -> bool
     requires { (v < s.vars) × HoldsF s w.now }
     ensures { result ≡ (usual s.feas (get_or (floats_of s w.now).elo v nan) && usual s.feas (get_or (floats_of s w.now).ehi v nan)) }
 {
-    let lo = space::get_elo(w, s, v);
-    let hi = space::get_ehi(w, s, v);
-    if tolerances::usual(s.feas, lo) {
-        return tolerances::usual(s.feas, hi);
-    }
-    false
+    tolerances::usual(s.feas, space::get::<Elo>(w, s, v))
+        && tolerances::usual(s.feas, space::get::<Ehi>(w, s, v))
 }
 
 // = activity_step, its variable within lo..hi. Mostly both tolerances are the absolute part alone.
+// Variable and coefficient stay two parameters: the walk reads them at once from two slices, and a struct
+// of both would be taken apart again at each use.
+// Compiled into the walk over a row's terms, so that the activity stays in registers.
+#[inline(always)]
 fn term_within(w: &[f64], s: Shape, v: usize, a: f64, lo: f64, hi: f64, act: Activity) -> Activity
     requires { (v < s.vars) × HoldsF s w.now × (act.ninf_l + 1 < 2 ^ 64) × (act.ninf_u + 1 < 2 ^ 64) }
     ensures { ReadsF Any s (floats_of s w.now) result (λ M u. definition.activity_step M u lo hi (term v a) act) }
 {
     if usual_bounds(w, s, v) {
-        return activity_step(act, a, lo, hi, s.feas, s.feas);
+        let ends = Ends {
+            lo,
+            hi,
+            tol_lo: s.feas,
+            tol_hi: s.feas,
+        };
+        return activity_step(act, a, ends);
     }
-    let low = bound_tol(w, s, v, false);
-    let high = bound_tol(w, s, v, true);
-    activity_step(act, a, lo, hi, low, high)
+    let ends = Ends {
+        lo,
+        hi,
+        tol_lo: bound_tol(w, s, v, false),
+        tol_hi: bound_tol(w, s, v, true),
+    };
+    activity_step(act, a, ends)
 }
 
 // = activity_step over the box that is asked for
-fn activity_term(w: &[f64], s: Shape, v: usize, a: f64, act: Activity, working: bool) -> Activity
+fn activity_term<B: Bounds>(w: &[f64], s: Shape, v: usize, a: f64, act: Activity) -> Activity
     requires { (v < s.vars) × HoldsF s w.now × (act.ninf_l + 1 < 2 ^ 64) × (act.ninf_u + 1 < 2 ^ 64) }
-    ensures { ReadsF Any s (floats_of s w.now) result (λ M u. definition.activity_step M u (at (los_of working u) v) (at (his_of working u) v) (term v a) act) }
+    ensures { ReadsF Any s (floats_of s w.now) result (λ M u. definition.activity_step M u (at (los_of B.working u) v) (at (his_of B.working u) v) (term v a) act) }
 {
-    if working {
-        let lo = space::get_wlo(w, s, v);
-        let hi = space::get_whi(w, s, v);
-        return term_within(w, s, v, a, lo, hi, act);
-    }
-    let lo = space::get_elo(w, s, v);
-    let hi = space::get_ehi(w, s, v);
-    term_within(w, s, v, a, lo, hi, act)
+    term_within(w, s, v, a, B::lo(w, s, v), B::hi(w, s, v), act)
 }
 
-// = activity
-pub fn activity(
-    starts: &[usize],
-    w: &[f64],
-    m: &[usize],
-    s: Shape,
-    r: usize,
-    working: bool,
-) -> Activity
+// = activity, over the working bounds or the emitted ones: `activity::<Working>` is compiled into its
+// one caller, since every row of every wave has it.
+pub fn activity<B: Bounds>(starts: &[usize], w: &[f64], m: &[usize], s: Shape, r: usize) -> Activity
     requires r_lt_rows { (r < s.rows) × HoldsF s w.now × HoldsN s m.now × Alive (numbers_of s m.now) r }
     requires ready { Ready (Spans starts.now) s (floats_of s w.now) (numbers_of s m.now) }
-    ensures { Reads (Spans starts.now) s (floats_of s w.now) (numbers_of s m.now) result (λ M u. definition.activity M u (row_of u r) working) }
+    ensures { Reads (Spans starts.now) s (floats_of s w.now) (numbers_of s m.now) result (λ M u. definition.activity M u (row_of u r) B.working) }
 {
     let a = starts[r];
-    let n = space::get_len(m, s, r);
+    let n = space::get::<Len>(m, s, r);
     let mut act = no_activity();
-    let mut i = 0;
-    while i < n {
-        let v = space::get_var(m, s, a + i);
-        let x = space::get_coeff(w, s, a + i);
-        act = activity_term(w, s, v, x, act, working);
-        i += 1;
-    }
-    act
-}
-
-// = activity over the working bounds. A function of its own, and not a call of activity, since it is compiled into its one
-// caller: every row of every wave has it.
-pub fn working_activity(starts: &[usize], w: &[f64], m: &[usize], s: Shape, r: usize) -> Activity
-    requires r_lt_rows { (r < s.rows) × HoldsF s w.now × HoldsN s m.now × Alive (numbers_of s m.now) r }
-    requires ready { Ready (Spans starts.now) s (floats_of s w.now) (numbers_of s m.now) }
-    ensures { Reads (Spans starts.now) s (floats_of s w.now) (numbers_of s m.now) result (λ M u. definition.activity M u (row_of u r) true) }
-{
-    let a = starts[r];
-    let n = space::get_len(m, s, r);
-    let mut act = no_activity();
-    let mut i = 0;
-    while i < n {
-        let v = space::get_var(m, s, a + i);
-        let x = space::get_coeff(w, s, a + i);
-        act = activity_term(w, s, v, x, act, true);
-        i += 1;
+    for i in 0..n {
+        let v = space::get::<Vars>(m, s, a + i);
+        let x = space::get::<Coeffs>(w, s, a + i);
+        act = activity_term::<B>(w, s, v, x, act);
     }
     act
 }

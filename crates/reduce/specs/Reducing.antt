@@ -1,17 +1,18 @@
 -- presolve up to its settled rows: the call ends with the definition's counts, or the slices show the state that the answer is read off.
-use Rattle.std.specs.Prelude.{ℕ, ◌≡◌, refl, List, length, Float}
-use Rattle.std.proofs.Common.{arith, ap, sym, ◌∙◌, subst}
+use Rattle.std.specs.Prelude.{ℕ, ◌≡◌, refl, List, length, Ok, Err}
+use Rattle.std.proofs.Common.{arith, ap, sym, ◌∙◌, subst, Bor}
+use Rattle.definition.specs.declared.Infeasible.{Infeasible}
 use Rattle.definition.specs.declared.Counts.{Counts}
+use Rattle.definition.specs.declared.Input.{Input}
 use Rattle.definition.specs.Model.{Model, Answer, infeasible}
 use Rattle.definition.specs.Work.{Work, Step, next}
 use Rattle.definition.specs.Emit.{final, answer_of}
 use Rattle.definition.specs.Presolve.{finish, presolve}
 use Rattle.space.specs.declared.Shape.{Shape}
-use Rattle.space.specs.declared.Step as code
-use Rattle.space.specs.declared.Step.TheVariants.{Stop, Next}
 use Rattle.space.specs.Store.{Floats, Numbers}
+use Rattle.view.specs.declared.Lists.{Lists}
 use Rattle.view.specs.Call.{Call}
-use Rattle.view.specs.Shows.{Shows, Counted, tally_of, StepShown, stopped, went}
+use Rattle.view.specs.Shows.{Shows, Counted, tally_of, StepShown, stopped, went, Outcome}
 use Rattle.view.specs.Inv.{Inv}
 use Rattle.view.specs.Acts.{Ready, Tries}
 use Rattle.view.specs.Adjacency.{Adjacency}
@@ -26,76 +27,82 @@ use Rattle.settle.specs.Settling.{from_keeps}
 use Rattle.rounds.specs.After.{Running, running_known}
 use Rattle.rounds.specs.Rounding.{rounds_of, rounds_keeps}
 
--- what the slices of the call say of the model
-pub record Called (fs ls hs : List Float) (ds : List ℕ) (tol : Float) (ss is : List ℕ) (cs : List Float) (os : List ℕ) (bs : List Float) (j : ℕ) (M : Model) : Type 0 where
-  pub obj : M.obj ≡ fs
-  pub handed : Handed ls hs ds tol ss is cs os bs M
-  pub mode : M.mode ≡ j
+-- what the call says of the model
+pub record Called (x : Input) (M : Model) : Type 0 where
+  pub obj : M.obj ≡ x.obj.now
+  pub handed : Handed x M
+  pub mode : M.mode ≡ x.mode
 
 -- what presolve answers: the counts are shown, or the settled state that its answer is read off
-pub data Reduction (M : Model) (f : Floats) (n : Numbers) : code.Step → Answer → Type 0 where
-  ended : {k : Counts} → Counted (tally_of n) k → Reduction M f n Stop (infeasible k)
-  settled : {w : Work} {o : List ℕ} {k : ℕ} → Shows M f n o w → Inv M k w → Reduction M f n Next (answer_of M (final w (out_of M w.rows (length M.rhs))))
+pub data Reduction (M : Model) (f : Floats) (n : Numbers) : Outcome → Answer → Type 0 where
+  ended : {e₀ : Infeasible} {k : Counts} → Counted (tally_of n) k → Reduction M f n (Err e₀) (infeasible k)
+  settled : {w : Work} {o : List ℕ} {k : ℕ} → Shows M f n o w → Inv M k w → Reduction M f n (Ok tt) (answer_of M (final w (out_of M w.rows (length M.rhs))))
 
-pub record Reduces (P : Model → Type 0) (s : Shape) (f : Floats) (n : Numbers) (z : code.Step) : Type 0 where
+pub record Reduces (P : Model → Type 0) (s : Shape) (f : Floats) (n : Numbers) (z : Outcome) : Type 0 where
   pub does : (M : Model) → P M → Call M s → Reduction M f n z (presolve M)
 
 -- what the adjacency slice holds: each variable's rows, where presolve comes to its settled rows
-pub record Adjoins (P : Model → Type 0) (s : Shape) (adj : List ℕ) (z : code.Step) : Type 0 where
-  pub adjacency : z ≡ Next → (M : Model) → P M → Call M s → Adjacency M adj
+pub record Adjoins (P : Model → Type 0) (s : Shape) (adj : List ℕ) (z : Outcome) : Type 0 where
+  pub adjacency : z ≡ (Ok tt) → (M : Model) → P M → Call M s → Adjacency M adj
 
-pub adjoins_stopped : {P : Model → Type 0} {s : Shape} {adj : List ℕ} → Adjoins P s adj Stop
-adjoins_stopped = record { adjacency = λ t. absurd (let z : ◌≡◌ {A = ℕ} 0 1 = cc in omega arith) }
+pub adjoins_stopped : {e₀ : Infeasible} {P : Model → Type 0} {s : Shape} {adj : List ℕ} → Adjoins P s adj (Err e₀)
+adjoins_stopped {e₀ = e₀} = record { adjacency = λ t. absurd (let z : ◌≡◌ {A = ℕ} 0 1 = cc in omega arith) }
 
-pub begins_is : {P : Model → Type 0} {s : Shape} {f : Floats} {n : Numbers} {adj : List ℕ} {z y : code.Step} → Begins P s f n adj z → z ≡ y → Begins P s f n adj y
-begins_is {P} {s} {f} {n} {adj} b e = subst (λ (x : code.Step). Begins P s f n adj x) e b
+pub begins_is : {P : Model → Type 0} {s : Shape} {f : Floats} {n : Numbers} {adj : List ℕ} {z y : Outcome} → Begins P s f n adj z → z ≡ y → Begins P s f n adj y
+begins_is {P} {s} {f} {n} {adj} b e = subst (λ (x : Outcome). Begins P s f n adj x) e b
+
+pub adjoins_is : {P : Model → Type 0} {s : Shape} {adj : List ℕ} {z y : Outcome} → Adjoins P s adj z → z ≡ y → Adjoins P s adj y
+adjoins_is {P} {s} {adj} a e = subst (λ (x : Outcome). Adjoins P s adj x) e a
 
 -- ---- the definition's end, step by step
-finish_stopped : {M : Model} {f : Floats} {n : Numbers} {o : List ℕ} {y : Step} → StepShown M f n o Stop y → Reduction M f n Stop (finish M y)
+finish_stopped : {e₀ : Infeasible} {M : Model} {f : Floats} {n : Numbers} {o : List ℕ} {y : Step} → StepShown M f n o (Err e₀) y → Reduction M f n (Err e₀) (finish M y)
 unfolding finish
-finish_stopped (stopped h) = ended h
+finish_stopped {e₀ = e₀} (stopped h) = ended h
 
 finish_is : (M : Model) (w : Work) → finish M (next w) ≡ answer_of M (final_of M (length M.rhs) (settle_from M (length M.rhs) 0 w))
 unfolding finish
 finish_is M w = ap (answer_of M) (out_settled_lem M (length M.rhs) w)
 
-final_shown : {M : Model} {f : Floats} {n : Numbers} {o : List ℕ} {k : ℕ} {z : code.Step} {y : Step} → StepShown M f n o z y → InvStep M k y
+final_shown : {M : Model} {f : Floats} {n : Numbers} {o : List ℕ} {k : ℕ} {z : Outcome} {y : Step} → StepShown M f n o z y → InvStep M k y
     → Reduction M f n z (answer_of M (final_of M (length M.rhs) y))
 unfolding final_of answer_of
 final_shown (stopped h) stops = ended h
 final_shown (went h) (goes i) = settled h i
 
 -- ---- reduce
-module _ {fs ls hs : List Float} {ds : List ℕ} {tol : Float} {ss is : List ℕ} {cs : List Float} {os : List ℕ} {bs : List Float} {j : ℕ} where
-  called_running : {js : List ℕ} (M : Model) → Called fs ls hs ds tol ss is cs os bs j M → Adjacency M js → Running fs ds ss is cs os bs js j M
-  called_running M p a =
-      let w = p.handed.written in
+-- what the rounds read of the call
+abbrev pub lists_of : Input → Bor (List ℕ) → Lists
+lists_of x adj = record { rows = x.rows; domain = x.domain; adj = adj }
+
+module _ {input : Input} where
+  called_running : (adj : Bor (List ℕ)) (M : Model) → Called input M → Adjacency M adj.now → Running input.obj.now (lists_of input adj) input.mode M
+  called_running adj M p a =
       record {
         obj = p.obj;
-        known = record { domain = p.handed.limits.domain; starts = w.starts; index = w.index; coeff = w.coeff; cmp = w.cmp; rhs = w.rhs; adj = a };
+        known = record { written = p.handed.written; domain = p.handed.limits.domain; adj = a };
         mode = p.mode;
       }
 
-  module _ {s : Shape} (G : Given (Called fs ls hs ds tol ss is cs os bs j) s) where
-    pub given_handed : Given (Handed ls hs ds tol ss is cs os bs) s
+  module _ {s : Shape} (G : Given (Called input) s) where
+    pub given_handed : Given (Handed input) s
     given_handed = record { model = G.model; known = G.known.handed; call = G.call }
 
-  module _ {s : Shape} {f₁ : Floats} {n₁ : Numbers} {js : List ℕ} where
-    -- infeasible at the start
-    pub reduce_ended : Begins (Handed ls hs ds tol ss is cs os bs) s f₁ n₁ js Stop → Reduces (Called fs ls hs ds tol ss is cs os bs j) s f₁ n₁ Stop
-    reduce_ended b =
-        record { does = λ M p c. let g = stopped_is (b.does M p.handed c) in subst (Reduction M f₁ n₁ Stop) (sym g.is) (ended g.counted) }
+  -- infeasible at the start
+  pub reduce_ended : {s : Shape} {f₁ : Floats} {n₁ : Numbers} {js : List ℕ} {e₀ : Infeasible} → Begins (Handed input) s f₁ n₁ js (Err e₀) → Reduces (Called input) s f₁ n₁ (Err e₀)
+  reduce_ended {f₁ = f₁} {n₁ = n₁} {e₀ = e₀} b =
+      record { does = λ M p c. let g = stopped_is (b.does M p.handed c) in subst (Reduction M f₁ n₁ (Err e₀)) (sym g.is) (ended g.counted) }
 
-    module _ (b : Begins (Handed ls hs ds tol ss is cs os bs) s f₁ n₁ js Next) where
-      running : (M : Model) → Called fs ls hs ds tol ss is cs os bs j M → Call M s → Running fs ds ss is cs os bs js j M
-      running M p c = called_running M p (b.adjacency refl M p.handed c)
+  -- the rounds only read the slice
+  pub adjoins_settled : {s : Shape} {f₁ : Floats} {n₁ : Numbers} {js : List ℕ} {z : Outcome} → Begins (Handed input) s f₁ n₁ js (Ok tt) → Adjoins (Called input) s js z
+  adjoins_settled b = record { adjacency = λ _ M p c. b.adjacency refl M p.handed c }
 
-      -- the rounds only read the slice
-      pub adjoins_settled : {z : code.Step} → Adjoins (Called fs ls hs ds tol ss is cs os bs j) s js z
-      adjoins_settled = record { adjacency = λ _ M p c. b.adjacency refl M p.handed c }
+  module _ {s : Shape} {f₁ : Floats} {n₁ : Numbers} (adj : Bor (List ℕ)) where
+    module _ (b : Begins (Handed input) s f₁ n₁ adj.now (Ok tt)) where
+      running : (M : Model) → Called input M → Call M s → Running input.obj.now (lists_of input adj) input.mode M
+      running M p c = called_running adj M p (b.adjacency refl M p.handed c)
 
       -- the state that the rounds have
-      pub ready_rounds : Given (Called fs ls hs ds tol ss is cs os bs j) s → Ready (Running fs ds ss is cs os bs js j) s f₁ n₁
+      pub ready_rounds : Given (Called input) s → Ready (Running input.obj.now (lists_of input adj) input.mode) s f₁ n₁
       ready_rounds G =
           let g = started_is (b.does G.model G.known.handed G.call) in
           record {
@@ -110,23 +117,23 @@ module _ {fs ls hs : List Float} {ds : List ℕ} {tol : Float} {ss is : List ℕ
           }
 
       -- infeasible in a round
-      pub reduce_stopped : {f₂ : Floats} {n₂ : Numbers} → Waves (Running fs ds ss is cs os bs js j) s f₁ n₁ f₂ n₂ Stop rounds_of → Reduces (Called fs ls hs ds tol ss is cs os bs j) s f₂ n₂ Stop
-      reduce_stopped {f₂} {n₂} t =
+      pub reduce_stopped : {e₀ : Infeasible} {f₂ : Floats} {n₂ : Numbers} → Waves (Running input.obj.now (lists_of input adj) input.mode) s f₁ n₁ f₂ n₂ (Err e₀) rounds_of → Reduces (Called input) s f₂ n₂ (Err e₀)
+      reduce_stopped {e₀} {f₂} {n₂} t =
           record {
             does = λ M p c.
                 let g = started_is (b.does M p.handed c) in
                 let a = t.does M n₁.wave 0 g.work (running M p c) c g.shows g.inv in
-                subst (Reduction M f₂ n₂ Stop) (sym g.is) (finish_stopped a.step);
+                subst (Reduction M f₂ n₂ (Err e₀)) (sym g.is) (finish_stopped a.step);
           }
 
-      module _ {f₂ : Floats} {n₂ : Numbers} (t : Waves (Running fs ds ss is cs os bs js j) s f₁ n₁ f₂ n₂ Next rounds_of) where
+      module _ {f₂ : Floats} {n₂ : Numbers} (t : Waves (Running input.obj.now (lists_of input adj) input.mode) s f₁ n₁ f₂ n₂ (Ok tt) rounds_of) where
         -- the state that is settled
-        pub ready_settle : Given (Called fs ls hs ds tol ss is cs os bs j) s → Ready (Written ss is cs os bs) s f₂ n₂
+        pub ready_settle : Given (Called input) s → Ready (Written input.rows) s f₂ n₂
         ready_settle G = ready_under known_written (ready_under running_known (ready_afresh (ready_rounds G) t rounds_keeps))
 
         -- to the end, or infeasible as a row is settled
-        pub reduce_settled : {f₃ : Floats} {n₃ : Numbers} {z : code.Step} → Tries (Written ss is cs os bs) s f₂ n₂ f₃ n₃ z (λ M. settle_from M s.rows 0)
-            → Reduces (Called fs ls hs ds tol ss is cs os bs j) s f₃ n₃ z
+        pub reduce_settled : {f₃ : Floats} {n₃ : Numbers} {z : Outcome} → Tries (Written input.rows) s f₂ n₂ f₃ n₃ z (λ M. settle_from M s.rows 0)
+            → Reduces (Called input) s f₃ n₃ z
         reduce_settled {f₃} {n₃} {z} u =
             record {
               does = λ M p c.
@@ -134,21 +141,21 @@ module _ {fs ls hs : List Float} {ds : List ℕ} {tol : Float} {ss is : List ℕ
                   let r = running M p c in
                   let a = t.does M n₁.wave 0 g.work r c g.shows g.inv in
                   let d = went_is a.step in
-                  let i = inv_next ((rounds_keeps {P = Running fs ds ss is cs os bs js j} {s = s}).keeps M 0 g.work r c g.inv) d.is in
+                  let i = inv_next ((rounds_keeps {P = Running input.obj.now (lists_of input adj) input.mode} {s = s}).keeps M 0 g.work r c g.inv) d.is in
                   let x = p.handed.written in
-                  let v = final_shown (u.does M a.other 0 d.work x c d.shows i) ((from_keeps {P = Written ss is cs os bs} {s = s} s.rows (omega arith)).keeps M 0 d.work x c i) in
+                  let v = final_shown (u.does M a.other 0 d.work x c d.shows i) ((from_keeps {P = Written input.rows} {s = s} s.rows (omega arith)).keeps M 0 d.work x c i) in
                   let e : presolve M ≡ answer_of M (final_of M (length M.rhs) (settle_from M s.rows 0 d.work)) =
                   g.is ∙ ap (finish M) d.is ∙ finish_is M d.work ∙ ap (λ (y : ℕ). answer_of M (final_of M (length M.rhs) (settle_from M y 0 d.work))) (sym c.rows) in
                   subst (Reduction M f₃ n₃ z) (sym e) v;
             }
 
 -- ---- what the next step has of it
-pub reduces_is : {P : Model → Type 0} {s : Shape} {f : Floats} {n : Numbers} {z y : code.Step} → Reduces P s f n z → z ≡ y → Reduces P s f n y
-reduces_is {P} {s} {f} {n} r e = subst (λ (x : code.Step). Reduces P s f n x) e r
+pub reduces_is : {P : Model → Type 0} {s : Shape} {f : Floats} {n : Numbers} {z y : Outcome} → Reduces P s f n z → z ≡ y → Reduces P s f n y
+reduces_is {P} {s} {f} {n} r e = subst (λ (x : Outcome). Reduces P s f n x) e r
 
 -- infeasible, with the counts that the numbers show
-pub ended_is : {M : Model} {f : Floats} {n : Numbers} {x : Answer} → Reduction M f n Stop x → Stopped M n x
-ended_is (ended {k} h) = record { counts = k; is = refl; counted = h }
+pub ended_is : {e₀ : Infeasible} {M : Model} {f : Floats} {n : Numbers} {x : Answer} → Reduction M f n (Err e₀) x → Stopped M n x
+ended_is {e₀ = e₀} (ended {k = k} h) = record { counts = k; is = refl; counted = h }
 
 -- the settled state, which the slices show
 pub record Settled (M : Model) (f : Floats) (n : Numbers) (x : Answer) : Type 0 where
@@ -159,5 +166,5 @@ pub record Settled (M : Model) (f : Floats) (n : Numbers) (x : Answer) : Type 0 
   pub shows : Shows M f n other work
   pub inv : Inv M left work
 
-pub settled_is : {M : Model} {f : Floats} {n : Numbers} {x : Answer} → Reduction M f n Next x → Settled M f n x
+pub settled_is : {M : Model} {f : Floats} {n : Numbers} {x : Answer} → Reduction M f n (Ok tt) x → Settled M f n x
 settled_is (settled {w} {o} {k} h i) = record { work = w; other = o; left = k; is = refl; shows = h; inv = i }

@@ -1,20 +1,21 @@
 -- The laws of the table's rows: what each function computes is its definition, and what a row that does not apply tells.
-use Rattle.std.specs.Prelude.{ℕ, zero, suc, ◌+◌, ◌-◌, ◌*◌, ◌≤◌, ◌<◌, ◌≡◌, refl, Bool, true, false, not, ◌&&◌, ◌||◌, List, eqb, ltb, leb, length, get_or, Float}
+use Rattle.std.specs.Prelude.{ℕ, zero, suc, ◌+◌, ◌-◌, ◌*◌, ◌≤◌, ◌<◌, ◌≡◌, refl, Bool, true, false, not, ◌&&◌, ◌||◌, List, eqb, ltb, leb, length, get_or, take, drop, Float}
 use Rattle.std.proofs.Common.{add-one, arith, sym, subst, ◌∙◌, true≢false}
 use Rattle.std.proofs.Math.Path.{ap}
 use Rattle.std.proofs.Math.Dec.{eqb_refl}
+use Rattle.std.proofs.lemmas.List.{get_or-take, get_or-drop, length-drop, length-take-le}
 use Rattle.std.specs.Float.{nan, inf, fin}
 use Rattle.std.specs.Float.Ieee.{up, down, eq, ne, neg, is_nan, of_bits}
 use Rattle.std.specs.Float.Ieee.Bits.{is_true}
 use Rattle.std.specs.Float.Ieee.Fits.{and_i}
 use borrow.Author.Tests.{ltb-false, eqb-true, not-false}
 use Rattle.floats.specs.Num.{∞f, -∞f, is_finite}
-use Rattle.tolerances.specs.Tol.{at}
-use Rattle.definition.specs.Model.{Model, from, upto, nnz, op_of}
+use Rattle.std.specs.List.{list_any, zip}
+use Rattle.tolerances.specs.Tol.{valid_rhs}
+use Rattle.definition.specs.Model.{Model, from, upto, nnz, op_of, rhs_of}
 use Rattle.definition.specs.Refusal.{some_below, lengths_disagree, too_large, start_falls, starts_wrong, index_large, index_falls, row_unordered}
-use Rattle.definition.specs.Refusal.{indices_wrong, domain_wrong, cmp_wrong, codes_wrong, obj_wrong, coeff_wrong, numbers_wrong}
-use Rattle.refuse.specs.Of.{spans_of, indices_of, codes_of, numbers_of}
-use Rattle.refuse.specs.Laws.{none_below}
+use Rattle.definition.specs.Refusal.{indices_wrong, domain_wrong, cmp_wrong, codes_wrong, bound_wrong, bounds_wrong, obj_wrong, coeff_wrong, numbers_wrong, rhs_wrong, rhses_wrong}
+use Rattle.refuse.specs.Laws.{none_below, same_below, any_below, any_pair_below}
 
 -- ---- what the functions compute
 -- a value differs from itself at a NaN alone
@@ -33,23 +34,34 @@ minus = refl
 pub bound_is : {a b : Float} (l h : Float) → a ≡ ∞f → b ≡ ∞f → (ne l l || ne h h || eq l a || eq h (neg b)) ≡ (is_nan l || is_nan h || eq l ∞f || eq h -∞f)
 bound_is l h ea eb = rw (ne_self l, ne_self h, ea, eb, minus)
 
-module _ {a b : Bool} where
-  pub indices_are : (obj : List Float) (starts index : List ℕ) (rhs : List Float) → a ≡ some_below (λ k. leb (length obj) (get_or index k 0)) (length index)
-      → b ≡ some_below (row_unordered (spans_of starts index rhs)) (length rhs) → (a || b) ≡ indices_wrong (indices_of obj starts index rhs)
-  unfolding indices_wrong index_large row_unordered index_falls nnz from upto
-  indices_are obj starts index rhs ea eb = rw (ea, eb)
+module _ (M : Model) {a : Bool} where
+  pub starts_are : length M.starts ≡ length M.rhs + 1 → a ≡ some_below (λ r. ltb (get_or M.starts (r + 1) 0) (get_or M.starts r 0)) (length M.starts - 1)
+      → (not (eqb (get_or M.starts 0 0) 0) || a || not (eqb (get_or M.starts (length M.rhs) 0) (length M.index))) ≡ starts_wrong M
+  unfolding starts_wrong start_falls from upto
+  starts_are l e = let n : length M.starts - 1 ≡ length M.rhs = omega (arith, l) in rw (e, n)
 
-  pub codes_are : (obj : List Float) (domain cmp : List ℕ) (rhs : List Float) (mode : ℕ) → length domain ≡ length obj → length cmp ≡ length rhs → a ≡ some_below
-      (λ k. ltb 2 (get_or domain k 0)) (length domain) → b ≡ some_below (λ k. ltb 2 (get_or cmp k 0)) (length cmp)
-      → (a || b || ltb 2 mode) ≡ codes_wrong (codes_of obj domain cmp rhs mode)
+  pub indices_are : {b : Bool} → a ≡ list_any (λ i. leb (length M.obj) i) M.index → b ≡ some_below (row_unordered M) (length M.rhs) → (a || b) ≡ indices_wrong M
+  unfolding indices_wrong index_large
+  indices_are ea eb = rw (ea, eb, any_below (λ (i : ℕ). leb (length M.obj) i) M.index 0)
+
+  pub codes_are : {b : Bool} → length M.domain ≡ length M.obj → length M.cmp ≡ length M.rhs → a ≡ list_any (λ c. ltb 2 c) M.domain
+      → b ≡ list_any (λ c. ltb 2 c) M.cmp → (a || b || ltb 2 M.mode) ≡ codes_wrong M
   unfolding codes_wrong domain_wrong cmp_wrong op_of
-  codes_are obj domain cmp rhs mode d c ea eb = rw (ea ∙ ap (some_below _) d, eb ∙ ap (some_below _) c)
+  codes_are d c ea eb = rw (ea, eb, any_below (λ (i : ℕ). ltb 2 i) M.domain 0, any_below (λ (i : ℕ). ltb 2 i) M.cmp 0, d, c)
 
-  pub numbers_are : (obj : List Float) (index : List ℕ) (coeff : List Float) → length coeff ≡ length index → a ≡ some_below
-      (λ k. not (is_finite (at obj k))) (length obj) → b ≡ some_below (λ k. not (is_finite (at coeff k))) (length coeff)
-      → (a || b) ≡ numbers_wrong (numbers_of obj index coeff)
+  pub bounds_are : length M.lower ≡ length M.obj → length M.upper ≡ length M.obj
+      → a ≡ list_any (λ p. is_nan p.0 || is_nan p.1 || eq p.0 ∞f || eq p.1 -∞f) (zip M.lower M.upper) → a ≡ bounds_wrong M
+  unfolding bounds_wrong bound_wrong
+  bounds_are l u e = e ∙ any_pair_below _ M.lower M.upper nan nan (u ∙ sym l) ∙ ap (some_below _) l
+
+  pub numbers_are : {b : Bool} → length M.coeff ≡ length M.index → a ≡ list_any (λ x. not (is_finite x)) M.obj → b ≡ list_any (λ x. not (is_finite x)) M.coeff
+      → (a || b) ≡ numbers_wrong M
   unfolding numbers_wrong obj_wrong coeff_wrong
-  numbers_are obj index coeff c ea eb = rw (ea, eb ∙ ap (some_below _) c)
+  numbers_are c ea eb = rw (ea, eb, any_below (λ (x : Float). not (is_finite x)) M.obj nan, any_below (λ (x : Float). not (is_finite x)) M.coeff nan, c)
+
+  pub rhses_are : length M.cmp ≡ length M.rhs → a ≡ list_any (λ p. not (valid_rhs p.0 p.1)) (zip M.cmp M.rhs) → a ≡ rhses_wrong M
+  unfolding rhses_wrong rhs_wrong op_of rhs_of
+  rhses_are c e = e ∙ any_pair_below _ M.cmp M.rhs 0 nan (sym c) ∙ ap (some_below _) c
 
 -- ---- a row that does not apply
 pub neither : (a b : Bool) → (a || b) ≡ false → (a ≡ false) × (b ≡ false)
@@ -105,24 +117,42 @@ pub record Span (starts index : List ℕ) (r : ℕ) : Type 0 where
   pub rise : get_or starts r 0 ≤ get_or starts (r + 1) 0
   pub last : get_or starts (r + 1) 0 ≤ length index
 
-module _ (starts index : List ℕ) (rhs : List Float) (h : starts_wrong (spans_of starts index rhs) ≡ false) where
-  parts : (some_below (start_falls (spans_of starts index rhs)) (length rhs) ≡ false) × (not (eqb (get_or starts (length rhs) 0) (length index)) ≡ false)
+module _ (M : Model) (h : starts_wrong M ≡ false) where
+  parts : (some_below (start_falls M) (length M.rhs) ≡ false) × (not (eqb (get_or M.starts (length M.rhs) 0) (length M.index)) ≡ false)
   unfolding starts_wrong from
   parts =
-      let falls = some_below (start_falls (spans_of starts index rhs)) (length rhs) in
-      let p = neither (not (eqb (get_or starts 0 0) 0) || falls) (not (eqb (get_or starts (length rhs) 0) (length index))) h in
-      ((neither (not (eqb (get_or starts 0 0) 0)) falls p.0).1, p.1)
+      let falls = some_below (start_falls M) (length M.rhs) in
+      let p = neither (not (eqb (get_or M.starts 0 0) 0) || falls) (not (eqb (get_or M.starts (length M.rhs) 0) (length M.index))) h in
+      ((neither (not (eqb (get_or M.starts 0 0) 0)) falls p.0).1, p.1)
 
-  rise : (r : ℕ) → r < length rhs → get_or starts r 0 ≤ get_or starts (r + 1) 0
+  rise : (r : ℕ) → r < length M.rhs → get_or M.starts r 0 ≤ get_or M.starts (r + 1) 0
   unfolding start_falls from upto
-  rise r l = ltb-false _ _ (none_below (start_falls (spans_of starts index rhs)) (length rhs) r parts.0 l)
+  rise r l = ltb-false _ _ (none_below (start_falls M) (length M.rhs) r parts.0 l)
 
-  last : get_or starts (length rhs) 0 ≡ length index
+  last : get_or M.starts (length M.rhs) 0 ≡ length M.index
   last = same _ _ parts.1
 
-  climb : (d r : ℕ) → r + d ≡ length rhs → get_or starts r 0 ≤ length index
-  climb zero r e = let q : length rhs ≡ r = omega arith in subst (λ (k : ℕ). get_or starts k 0 ≤ length index) q (omega (arith, last))
+  climb : (d r : ℕ) → r + d ≡ length M.rhs → get_or M.starts r 0 ≤ length M.index
+  climb zero r e = let q : length M.rhs ≡ r = omega arith in subst (λ (k : ℕ). get_or M.starts k 0 ≤ length M.index) q (omega (arith, last))
   climb (suc d) r e = omega (arith, rise r (omega arith), climb d (r + 1) (omega arith))
 
-  pub span : (r : ℕ) → r < length rhs → Span starts index r
-  span r l = record { rise = rise r l; last = climb (length rhs - (r + 1)) (r + 1) (omega arith) }
+  pub span : (r : ℕ) → r < length M.rhs → Span M.starts M.index r
+  span r l = record { rise = rise r l; last = climb (length M.rhs - (r + 1)) (r + 1) (omega arith) }
+
+-- a row's indices alone: the part of the list that is the row's
+abbrev pub part : List ℕ → ℕ → ℕ → List ℕ
+part index from upto = take (upto - from) (drop from index)
+
+module _ (M : Model) (r : ℕ) (s : Span M.starts M.index r) where
+  abbrev row : List ℕ
+  row = part M.index (get_or M.starts r 0) (get_or M.starts (r + 1) 0)
+
+  pub unordered_is : {z : Bool} → z ≡ some_below (λ k. leb (get_or row (k + 1) 0) (get_or row k 0)) (length row - 1) → z ≡ row_unordered M r
+  unfolding row_unordered index_falls nnz from upto
+  unordered_is e =
+      let f = get_or M.starts r 0 in
+      let n = get_or M.starts (r + 1) 0 - f in
+      let long : length row ≡ n = length-take-le n (drop f M.index) (omega (arith, length-drop f M.index, s.rise, s.last)) in
+      let at : (k : ℕ) → k < n → get_or row k 0 ≡ get_or M.index (f + k) 0 = λ k l. get_or-take n (drop f M.index) k 0 l ∙ get_or-drop f M.index k 0 in
+      e ∙ ap (λ (j : ℕ). some_below (λ k. leb (get_or row (k + 1) 0) (get_or row k 0)) (j - 1)) long
+      ∙ same_below _ _ (n - 1) (λ k l. let up : f + (k + 1) ≡ suc (f + k) = omega arith in rw (at (k + 1) (omega arith), at k (omega arith), up) refl)

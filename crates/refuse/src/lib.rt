@@ -1,13 +1,16 @@
-// The table of refusals for a call: the number of the earliest row of the table that applies. Added
-// by the port; the contract is one equation with the definition's `refusal`.
+// The table of refusals for a call: the earliest row of the table that applies. Added by the port; the
+// contract is one equation with the definition's `refusal`.
 #![tactic(auto)]
-
-ghost use Rattle.std.specs.Prelude.{◌≡◌};
-ghost use Rattle.definition.specs.Refusal.{refusal};
-ghost use Rattle.refuse.specs.Of.{model_of, lent_of, refused_is};
 
 mod lists;
 mod rows;
+
+ghost use Rattle.std.specs.Prelude.{◌≡◌};
+ghost use Rattle.definition.specs.Refusal.{refusal};
+ghost use Rattle.refuse.specs.Number.{number_of};
+ghost use Rattle.refuse.specs.Of.{input_model, lent_of, refused_is};
+
+use definition::Input;
 
 // The most variables, rows and terms that a call may have.
 pub const MAX_VARS: usize = 4096;
@@ -34,61 +37,63 @@ pub struct Lent {
     pub adjacency: usize,
 }
 
-// No row of the table applies, or the number of the earliest one that does.
-#[derive(Clone, Copy)]
+// The rows of the table. Their numbers are the table's, which C is handed.
+#[derive(Clone, Copy, PartialEq, Eq, Debug)]
 pub enum Refusal {
-    Accepted,
-    Number(u8),
+    LengthsDisagree = 1,
+    TooLarge = 2,
+    StartsWrong = 3,
+    IndicesWrong = 4,
+    CodesWrong = 5,
+    BoundsWrong = 6,
+    NumbersWrong = 7,
+    RhsesWrong = 8,
+    TolerancesWrong = 9,
+    TooShort = 10,
 }
 
-// = refusal: the rows in their order, each looked at only where none before it applies.
-pub fn refused(
-    obj: &[f64],
-    lower: &[f64],
-    upper: &[f64],
-    domain: &[u8],
-    starts: &[usize],
-    index: &[usize],
-    coeff: &[f64],
-    cmp: &[u8],
-    rhs: &[f64],
-    mode: u8,
-    feas: f64,
-    int_tol: f64,
-    lent: Lent,
-) -> Refusal
-    ensures { refused_is result ≡ refusal (model_of obj.now lower.now upper.now domain.now starts.now
-        index.now coeff.now cmp.now rhs.now mode feas int_tol) (lent_of lent) }
+impl From<Refusal> for u8 {
+    ghost from_gives = { λ refusal number. number ≡ number_of refusal };
+
+    fn from(refusal: Refusal) -> u8 {
+        refusal as u8
+    }
+}
+
+// = refusal: the rows in their order, each looked at only where none before it applies. Ten blocks that are
+// alike, as the table's rows are: a row relies on those before it, which `?` over a helper would hide.
+pub fn refused(input: Input, lent: Lent) -> Result<(), Refusal>
+    ensures { refused_is result ≡ refusal (input_model input.entry) (lent_of lent) }
 {
-    if rows::lengths_disagree(obj, lower, upper, domain, starts, index, coeff, cmp, rhs) {
-        return Refusal::Number(1);
+    if rows::lengths_disagree(input) {
+        return Err(Refusal::LengthsDisagree);
     }
-    if rows::too_large(obj, index, rhs) {
-        return Refusal::Number(2);
+    if rows::too_large(input) {
+        return Err(Refusal::TooLarge);
     }
-    if rows::starts_wrong(starts, index, rhs) {
-        return Refusal::Number(3);
+    if rows::starts_wrong(input) {
+        return Err(Refusal::StartsWrong);
     }
-    if rows::indices_wrong(obj, starts, index, rhs) {
-        return Refusal::Number(4);
+    if rows::indices_wrong(input) {
+        return Err(Refusal::IndicesWrong);
     }
-    if rows::codes_wrong(obj, domain, cmp, rhs, mode) {
-        return Refusal::Number(5);
+    if rows::codes_wrong(input) {
+        return Err(Refusal::CodesWrong);
     }
-    if rows::bounds_wrong(obj, lower, upper) {
-        return Refusal::Number(6);
+    if rows::bounds_wrong(input) {
+        return Err(Refusal::BoundsWrong);
     }
-    if rows::numbers_wrong(obj, index, coeff) {
-        return Refusal::Number(7);
+    if rows::numbers_wrong(input) {
+        return Err(Refusal::NumbersWrong);
     }
-    if rows::rhses_wrong(cmp, rhs) {
-        return Refusal::Number(8);
+    if rows::rhses_wrong(input) {
+        return Err(Refusal::RhsesWrong);
     }
-    if rows::tolerances_wrong(feas, int_tol) {
-        return Refusal::Number(9);
+    if rows::tolerances_wrong(input) {
+        return Err(Refusal::TolerancesWrong);
     }
-    if rows::too_short(obj, index, rhs, lent) {
-        return Refusal::Number(10);
+    if rows::too_short(input, lent) {
+        return Err(Refusal::TooShort);
     }
-    Refusal::Accepted
+    Ok(())
 }

@@ -1,131 +1,122 @@
 // The rows of the table of refusals, one function each. A row may rely on what the rows before it
 // rule out.
-ghost use Rattle.std.specs.Prelude.{◌≡◌, false, ◌||◌, ◌+◌, ◌≤◌, length};
-ghost use Rattle.std.specs.Float.Ieee.{eq, is_nan};
-ghost use Rattle.floats.specs.Num.{∞f, -∞f};
+ghost use Rattle.std.specs.Prelude.{◌≡◌, false, ◌+◌, ◌≤◌, length};
 ghost use Rattle.definition.specs.Refusal as definition;
-ghost use Rattle.refuse.specs.Of.{lists_of, sizes_of, spans_of, indices_of, codes_of, bounds_of, numbers_of, rhses_of, tolerances_of, lent_of};
+ghost use Rattle.definition.specs.Refusal.{some_below, row_unordered};
+ghost use Rattle.refuse.specs.Of.{input_model, lent_of};
 
 use crate::{Lent, MAX_ROWS, MAX_TERMS, MAX_VARS, lists};
+use definition::Input;
 
 // = lengths_disagree: row starts have one entry more than there are rows.
-pub(crate) fn lengths_disagree(
-    obj: &[f64],
-    lower: &[f64],
-    upper: &[f64],
-    domain: &[u8],
-    starts: &[usize],
-    index: &[usize],
-    coeff: &[f64],
-    cmp: &[u8],
-    rhs: &[f64],
-) -> bool
-    ensures { result ≡ definition.lengths_disagree (lists_of obj.now lower.now upper.now domain.now
-        starts.now index.now coeff.now cmp.now rhs.now) }
+pub(crate) fn lengths_disagree(input: Input) -> bool
+    ensures { result ≡ definition.lengths_disagree (input_model input.entry) }
 {
-    let vars = obj.len();
-    let rows = rhs.len();
-    (lower.len() != vars)
-        | (upper.len() != vars)
-        | (domain.len() != vars)
-        | (starts.len() != rows + 1)
-        | (cmp.len() != rows)
-        | (coeff.len() != index.len())
+    let vars = input.obj.len();
+    let rows = input.rows.rhs.len();
+    (input.lower.len() != vars)
+        | (input.upper.len() != vars)
+        | (input.domain.len() != vars)
+        | (input.rows.starts.len() != rows + 1)
+        | (input.rows.cmp.len() != rows)
+        | (input.rows.coeff.len() != input.rows.index.len())
 }
 
 // = too_large
-pub(crate) fn too_large(obj: &[f64], index: &[usize], rhs: &[f64]) -> bool
-    ensures { result ≡ definition.too_large (sizes_of obj.now index.now rhs.now) }
+pub(crate) fn too_large(input: Input) -> bool
+    ensures { result ≡ definition.too_large (input_model input.entry) }
 {
-    (obj.len() > MAX_VARS) | (rhs.len() > MAX_ROWS) | (index.len() > MAX_TERMS)
+    (input.obj.len() > MAX_VARS)
+        | (input.rows.rhs.len() > MAX_ROWS)
+        | (input.rows.index.len() > MAX_TERMS)
 }
 
 // = starts_wrong
-pub(crate) fn starts_wrong(starts: &[usize], index: &[usize], rhs: &[f64]) -> bool
-    requires { length starts.now ≡ length rhs.now + 1 }
-    ensures { result ≡ definition.starts_wrong (spans_of starts.now index.now rhs.now) }
+pub(crate) fn starts_wrong(input: Input) -> bool
+    requires { length input.rows.starts.now ≡ length input.rows.rhs.now + 1 }
+    ensures { result ≡ definition.starts_wrong (input_model input.entry) }
 {
-    let rows = rhs.len();
-    (starts[0] != 0) | lists::start_falls(starts, rows) | (starts[rows] != index.len())
+    let starts = input.rows.starts;
+    (starts[0] != 0)
+        | lists::start_falls(starts)
+        | (starts[input.rows.rhs.len()] != input.rows.index.len())
+}
+
+// = row_unordered, of some row. Tried as `any`: what its closure asks of starts and index did not close.
+fn some_row_unordered(input: Input) -> bool
+    requires starts_len { length input.rows.starts.now ≡ length input.rows.rhs.now + 1 }
+    requires rhs_value { definition.starts_wrong (input_model input) ≡ false }
+    ensures { result ≡ some_below (row_unordered (input_model input.entry)) (length input.entry.rows.rhs.now) }
+{
+    let starts = input.rows.starts;
+    let index = input.rows.index;
+    for r in 0..input.rows.rhs.len() {
+        let from = starts[r];
+        let upto = starts[r + 1];
+        if lists::index_falls(&index[from..upto]) {
+            return true;
+        }
+    }
+    false
 }
 
 // = indices_wrong
-pub(crate) fn indices_wrong(obj: &[f64], starts: &[usize], index: &[usize], rhs: &[f64]) -> bool
-    requires starts_len { length starts.now ≡ length rhs.now + 1 }
-    requires rhs_value { definition.starts_wrong (spans_of starts.now index.now rhs.now) ≡ false }
-    ensures { result ≡ definition.indices_wrong (indices_of obj.now starts.now index.now rhs.now) }
+pub(crate) fn indices_wrong(input: Input) -> bool
+    requires starts_len { length input.rows.starts.now ≡ length input.rows.rhs.now + 1 }
+    requires rhs_value { definition.starts_wrong (input_model input) ≡ false }
+    ensures { result ≡ definition.indices_wrong (input_model input.entry) }
 {
-    lists::index_large(index, obj.len()) | lists::row_unordered(starts, index, rhs)
+    lists::index_large(input.rows.index, input.obj.len()) | some_row_unordered(input)
 }
 
 // = codes_wrong
-pub(crate) fn codes_wrong(obj: &[f64], domain: &[u8], cmp: &[u8], rhs: &[f64], mode: u8) -> bool
-    requires { (length domain.now ≡ length obj.now) × (length cmp.now ≡ length rhs.now) }
-    ensures { result ≡ definition.codes_wrong (codes_of obj.now domain.now cmp.now rhs.now mode) }
+pub(crate) fn codes_wrong(input: Input) -> bool
+    requires { (length input.domain.now ≡ length input.obj.now) × (length input.rows.cmp.now ≡ length input.rows.rhs.now) }
+    ensures { result ≡ definition.codes_wrong (input_model input.entry) }
 {
-    lists::code_wrong(domain) | lists::code_wrong(cmp) | (mode > 2)
-}
-
-// = bound_wrong, of a lower and an upper bound.
-fn bound_wrong(l: f64, h: f64) -> bool
-    ensures { result ≡ (is_nan l || is_nan h || eq l ∞f || eq h -∞f) }
-{
-    (l != l) | (h != h) | (l == floats::infinity()) | (h == -floats::infinity())
+    lists::code_wrong(input.domain) | lists::code_wrong(input.rows.cmp) | (input.mode > 2)
 }
 
 // = bounds_wrong
-pub(crate) fn bounds_wrong(obj: &[f64], lower: &[f64], upper: &[f64]) -> bool
-    requires { (length lower.now ≡ length obj.now) × (length upper.now ≡ length obj.now) }
-    ensures { result ≡ definition.bounds_wrong (bounds_of obj.now lower.now upper.now) }
+pub(crate) fn bounds_wrong(input: Input) -> bool
+    requires { (length input.lower.now ≡ length input.obj.now) × (length input.upper.now ≡ length input.obj.now) }
+    ensures { result ≡ definition.bounds_wrong (input_model input.entry) }
 {
-    let mut v = 0;
-    while v < obj.len() {
-        if bound_wrong(lower[v], upper[v]) {
-            return true;
-        }
-        v += 1;
-    }
-    false
+    lists::bounds_wrong(input.lower, input.upper)
 }
 
 // = numbers_wrong
-pub(crate) fn numbers_wrong(obj: &[f64], index: &[usize], coeff: &[f64]) -> bool
-    requires { length coeff.now ≡ length index.now }
-    ensures { result ≡ definition.numbers_wrong (numbers_of obj.now index.now coeff.now) }
+pub(crate) fn numbers_wrong(input: Input) -> bool
+    requires { length input.rows.coeff.now ≡ length input.rows.index.now }
+    ensures { result ≡ definition.numbers_wrong (input_model input.entry) }
 {
-    lists::not_finite(obj) | lists::not_finite(coeff)
+    lists::not_finite(input.obj) | lists::not_finite(input.rows.coeff)
 }
 
 // = rhses_wrong
-pub(crate) fn rhses_wrong(cmp: &[u8], rhs: &[f64]) -> bool
-    requires { length cmp.now ≡ length rhs.now }
-    ensures { result ≡ definition.rhses_wrong (rhses_of cmp.now rhs.now) }
+pub(crate) fn rhses_wrong(input: Input) -> bool
+    requires { length input.rows.cmp.now ≡ length input.rows.rhs.now }
+    ensures { result ≡ definition.rhses_wrong (input_model input.entry) }
 {
-    let mut r = 0;
-    while r < rhs.len() {
-        if !tolerances::valid_rhs(cmp[r], rhs[r]) {
-            return true;
-        }
-        r += 1;
-    }
-    false
+    lists::rhses_wrong(input.rows.cmp, input.rows.rhs)
 }
 
 // = tolerances_wrong: not from 0 to 0.5, or not a number.
-pub(crate) fn tolerances_wrong(feas: f64, int_tol: f64) -> bool
-    ensures { result ≡ definition.tolerances_wrong (tolerances_of feas int_tol) }
+pub(crate) fn tolerances_wrong(input: Input) -> bool
+    ensures { result ≡ definition.tolerances_wrong (input_model input.entry) }
 {
-    !((0.0 <= feas) & (feas <= 0.5)) | !((0.0 <= int_tol) & (int_tol <= 0.5))
+    !((0.0 <= input.feas) & (input.feas <= 0.5))
+        | !((0.0 <= input.int_tol) & (input.int_tol <= 0.5))
 }
 
 // = too_short. No sum overflows at the maxima.
-pub(crate) fn too_short(obj: &[f64], index: &[usize], rhs: &[f64], lent: Lent) -> bool
-    requires { (length obj.now ≤ 4096) × (length rhs.now ≤ 8192) × (length index.now ≤ 65536) }
-    ensures { result ≡ definition.too_short (sizes_of obj.now index.now rhs.now) (lent_of lent) }
+pub(crate) fn too_short(input: Input, lent: Lent) -> bool
+    requires { (length input.obj.now ≤ 4096) × (length input.rows.rhs.now ≤ 8192) × (length input.rows.index.now ≤ 65536) }
+    ensures { result ≡ definition.too_short (input_model input.entry) (lent_of lent) }
 {
-    let vars = obj.len();
-    let rows = rhs.len();
-    let terms = index.len();
+    let vars = input.obj.len();
+    let rows = input.rows.rhs.len();
+    let terms = input.rows.index.len();
     (lent.lower < vars)
         | (lent.upper < vars)
         | (lent.emit_row < rows)

@@ -1,5 +1,5 @@
 -- `row_after`: the new coefficient first, then the binding, then the bound.
-use Rattle.std.specs.Prelude.{ℕ, ◌+◌, ◌≤◌, ◌<◌, ◌≡◌, refl, true, false, List, [], ◌∷◌, ◌++◌, length, get_or, Float}
+use Rattle.std.specs.Prelude.{ℕ, ◌+◌, ◌≤◌, ◌<◌, ◌≡◌, refl, true, false, List, [], ◌∷◌, ◌++◌, length, get_or, Float, Option, None, Some}
 use Rattle.std.proofs.Common.{arith, ap, sym, ◌∙◌, subst, get_or-set_same}
 use Rattle.std.proofs.Math.Option.{some}
 use Rattle.std.specs.Float.{nan}
@@ -13,10 +13,10 @@ use Rattle.definition.specs.Bindings.{sum_coeffs, taken, rewrite_binding, growth
 use Rattle.definition.specs.Rewrites.{Form, le_form, ge_form, no_form, Rewrite, keeps, coeff_only, coeff_bound}
 use Rattle.definition.specs.Tighten.{set_coeff, rebound_row, row_after}
 use Rattle.formulas.specs.declared.Form as forms
-use Rattle.formulas.specs.declared.Form.TheVariants.{Le, Ge, Neither}
+use Rattle.formulas.specs.declared.Form.TheVariants.{Le, Ge}
 use Rattle.formulas.specs.declared.Rewrite as rewrites
-use Rattle.formulas.specs.declared.Rewrite.TheVariants.{Keeps, Coeff, CoeffBound}
-use Rattle.formulas.specs.Rewriting.{form_is, rewrite_is}
+use Rattle.formulas.specs.declared.Rebound.{Rebound}
+use Rattle.formulas.specs.Rewriting.{form_is, maybe_form, bound_is, rewrite_is, maybe_rewrite}
 use Rattle.space.specs.declared.Shape.{Shape}
 use Rattle.space.specs.Store.{Floats, Numbers, put_lo, put_hi, put_coeffs}
 use Rattle.view.specs.Call.{Call}
@@ -193,17 +193,20 @@ rebound_row_lem : (M : Model) (w : Work) (x : Row) (i v : ℕ) (a na bp : Float)
 unfolding rebound_row
 rebound_row_lem M w x i v a na bp = refl
 
-module _ {P : Model → Type 0} {s : Shape} {f : Floats} {n : Numbers} (r i v : ℕ) (a na bp : Float) {g : forms.Form} where
-  module _ {f' : Floats} {n' : Numbers} where
+module _ {P : Model → Type 0} {s : Shape} {f : Floats} {n : Numbers} (r i v : ℕ) (a na bp : Float) where
+  module _ {f' : Floats} {n' : Numbers} {g : forms.Form} where
     pub rebound_le : g ≡ Le → Rebounds P s f n f' n' r i v a na bp le_form → Rebounds P s f n f' n' r i v a na bp (form_is g)
     rebound_le e A = subst (λ (h : forms.Form). Rebounds P s f n f' n' r i v a na bp (form_is h)) (sym e) A
 
     pub rebound_ge : g ≡ Ge → Rebounds P s f n f' n' r i v a na bp ge_form → Rebounds P s f n f' n' r i v a na bp (form_is g)
     rebound_ge e A = subst (λ (h : forms.Form). Rebounds P s f n f' n' r i v a na bp (form_is h)) (sym e) A
 
-  pub rebound_none : g ≡ Neither → r < s.rows → Alive n r → Rebounds P s f n f n r i v a na bp (form_is g)
+    pub rebound_some : {o : Option forms.Form} → o ≡ Some g → Rebounds P s f n f' n' r i v a na bp (form_is g) → Rebounds P s f n f' n' r i v a na bp (maybe_form o)
+    rebound_some e A = subst (λ (h : Option forms.Form). Rebounds P s f n f' n' r i v a na bp (maybe_form h)) (sym e) A
+
+  pub rebound_none : {g : Option forms.Form} → g ≡ None → r < s.rows → Alive n r → Rebounds P s f n f n r i v a na bp (maybe_form g)
   rebound_none e p al =
-      subst (λ (h : forms.Form). Rebounds P s f n f n r i v a na bp (form_is h)) (sym e)
+      subst (λ (h : Option forms.Form). Rebounds P s f n f n r i v a na bp (maybe_form h)) (sym e)
       (record {
         does = λ M o k w q c h j. subst (λ (y : Row). Shows M f n o (with_row r y w)) (sym (rebound_row_lem M w (row_of w r) i v a na bp)) ((same_acts {P = P} p al).does M o k w q c h j);
       })
@@ -216,8 +219,8 @@ module _ {P : Model → Type 0} {s : Shape} {f : Floats} {n : Numbers} (r i v : 
   unfolding row_after
   keeps_after p al = same_acts p al
 
-  pub after_same : {x : rewrites.Rewrite} → x ≡ Keeps → r < s.rows → Alive n r → Afters P s f n f n r i v a g (rewrite_is x)
-  after_same e p al = subst (λ (y : rewrites.Rewrite). Afters P s f n f n r i v a g (rewrite_is y)) (sym e) (keeps_after p al)
+  pub after_same : {x : Option rewrites.Rewrite} → x ≡ None → r < s.rows → Alive n r → Afters P s f n f n r i v a g (maybe_rewrite x)
+  after_same e p al = subst (λ (y : Option rewrites.Rewrite). Afters P s f n f n r i v a g (maybe_rewrite y)) (sym e) (keeps_after p al)
 
   module _ {f' : Floats} {n' : Numbers} where
     coeff_after : (na : Float) → Acts P s f n f' n' (λ M w. with_row r (set_coeff i v na (row_of w r)) w) → Afters P s f n f' n' r i v a g (coeff_only na)
@@ -228,18 +231,26 @@ module _ {P : Model → Type 0} {s : Shape} {f : Floats} {n : Numbers} (r i v : 
     unfolding row_after
     bound_after na bp d A = A
 
-    pub after_coeff : {x : rewrites.Rewrite} {na : Float} → x ≡ Coeff na → Acts P s f n f' n' (λ M w. with_row r (set_coeff i v na (row_of w r)) w) → Afters P s f n f' n' r i v a g (rewrite_is x)
-    after_coeff {na = na} e A = subst (λ (y : rewrites.Rewrite). Afters P s f n f' n' r i v a g (rewrite_is y)) (sym e) (coeff_after na A)
+    -- by whether the rewrite z moves the bound
+    module _ (z : rewrites.Rewrite) where
+      pub after_coeff : z.bound ≡ None → Acts P s f n f' n' (λ M w. with_row r (set_coeff i v z.coeff (row_of w r)) w) → Afters P s f n f' n' r i v a g (rewrite_is z)
+      after_coeff e A = subst (λ (y : Option Rebound). Afters P s f n f' n' r i v a g (bound_is z.coeff y)) (sym e) (coeff_after z.coeff A)
 
-    pub after_bound : {x : rewrites.Rewrite} {na bp d : Float} → x ≡ CoeffBound na bp d → Rebounds P s f n f' n' r i v a na bp g → Afters P s f n f' n' r i v a g (rewrite_is x)
-    after_bound {na = na} {bp = bp} {d = d} e A = subst (λ (y : rewrites.Rewrite). Afters P s f n f' n' r i v a g (rewrite_is y)) (sym e) (bound_after na bp d A)
+      pub after_bound : {b : Rebound} → z.bound ≡ Some b → Rebounds P s f n f' n' r i v a z.coeff b.to g → Afters P s f n f' n' r i v a g (rewrite_is z)
+      after_bound {b} e A = subst (λ (y : Option Rebound). Afters P s f n f' n' r i v a g (bound_is z.coeff y)) (sym e) (bound_after z.coeff b.to b.by A)
+
+    pub after_some : {x : Option rewrites.Rewrite} {z : rewrites.Rewrite} → x ≡ Some z → Afters P s f n f' n' r i v a g (rewrite_is z) → Afters P s f n f' n' r i v a g (maybe_rewrite x)
+    after_some e A = subst (λ (y : Option rewrites.Rewrite). Afters P s f n f' n' r i v a g (maybe_rewrite y)) (sym e) A
 
 -- the coefficient that such a rewrite puts in
 nonzero_of : {na bp d : Float} → Nonzero (coeff_bound na bp d) → eq na 0f ≡ false
 nonzero_of (nonzero_bound z) = z
 
-pub bound_nonzero : {x : rewrites.Rewrite} {na bp d : Float} → x ≡ CoeffBound na bp d → Nonzero (rewrite_is x) → eq na 0f ≡ false
-bound_nonzero e z = nonzero_of (subst (λ (y : rewrites.Rewrite). Nonzero (rewrite_is y)) e z)
+pub bound_nonzero : (z : rewrites.Rewrite) {b : Rebound} → z.bound ≡ Some b → Nonzero (rewrite_is z) → eq z.coeff 0f ≡ false
+bound_nonzero z e h = nonzero_of (subst (λ (y : Option Rebound). Nonzero (bound_is z.coeff y)) e h)
+
+pub some_nonzero : {x : Option rewrites.Rewrite} {z : rewrites.Rewrite} → x ≡ Some z → Nonzero (maybe_rewrite x) → Nonzero (rewrite_is z)
+some_nonzero e h = subst (λ (y : Option rewrites.Rewrite). Nonzero (maybe_rewrite y)) e h
 
 -- ---- what row_after keeps
 pub row_after_keeps : {M : Model} {k : ℕ} {s : Shape} {r : ℕ} (g : Form) (i : ℕ) (x : Rewrite) (w : Work) → Call M s → r < s.rows → (row_of w r).alive ≡ true

@@ -6,19 +6,19 @@ ghost use Rattle.std.specs.Float.Ieee.{eq};
 ghost use Rattle.floats.specs.Num.{0f};
 ghost use Rattle.tolerances.specs.Tol.{term};
 ghost use Rattle.definition.specs.Work.{with_row};
-ghost use Rattle.definition.specs.Rewrites as defs;
 ghost use Rattle.definition.specs.Tighten.{rebound_row, row_after};
 ghost use Rattle.space.specs.Store.{floats_of, numbers_of, HoldsF, HoldsN, put_coeffs};
 ghost use Rattle.view.specs.Acts.{Ready, Acts};
 ghost use Rattle.view.specs.Known.{Spans};
 ghost use Rattle.readers.specs.Reading.{row_of, Alive};
-ghost use Rattle.formulas.specs.Rewriting.{form_is, rewrite_is};
+ghost use Rattle.formulas.specs.Rewriting.{form_is, maybe_form, maybe_rewrite};
 ghost use Rattle.coeffs.specs.Keeping.{Nonzero};
 ghost use Rattle.rewrites.specs.After.{Placed};
 
+use crate::LiveTerm;
 use crate::bindings::rewrite_binding;
 use formulas::{Form, Rewrite};
-use space::Shape;
+use space::{Coeffs, Hi, Lo, Shape};
 
 // The coefficient of row r's live term at place i.
 fn set_coeff(starts: &[usize], w: &mut [f64], s: Shape, r: usize, i: usize, na: f64)
@@ -26,122 +26,68 @@ fn set_coeff(starts: &[usize], w: &mut [f64], s: Shape, r: usize, i: usize, na: 
     requires holds_f { HoldsF s w.old }
     ensures { floats_of s w.new ≡ put_coeffs (get_or starts.now r 0 + i) na (floats_of s w.old) }
 {
-    let k = starts[r];
-    space::put_coeff(w, s, k + i, na);
+    space::put::<Coeffs>(w, s, starts[r] + i, na);
 }
 
-// = rebound_row, of a Le row
-fn rebound_le(
-    starts: &[usize],
-    w: &mut [f64],
-    m: &mut [usize],
-    s: Shape,
-    r: usize,
-    i: usize,
-    v: usize,
-    a: f64,
-    na: f64,
-    bp: f64,
-)
-    requires holds_f { HoldsF s w.old × HoldsN s m.old × Placed starts.now s (numbers_of s m.old) r i v × (eq na 0f ≡ false) }
-    requires ready { Ready (Spans starts.now) s (floats_of s w.old) (numbers_of s m.old) }
-    ensures { Acts (Spans starts.now) s (floats_of s w.old) (numbers_of s m.old) (floats_of s w.new)
-        (numbers_of s m.new) (λ M u. with_row r (rebound_row M defs.le_form u (row_of u r) i v a na bp) u) }
-{
-    set_coeff(starts, w, s, r, i, na);
-    let b = space::get_hi(w, s, r);
-    let grown = rewrite_binding(starts, w, m, s, r, v, a, b, bp);
-    space::put_hi(w, s, r, bp + grown);
-}
-
-// = rebound_row, of a Ge row
-fn rebound_ge(
-    starts: &[usize],
-    w: &mut [f64],
-    m: &mut [usize],
-    s: Shape,
-    r: usize,
-    i: usize,
-    v: usize,
-    a: f64,
-    na: f64,
-    bp: f64,
-)
-    requires holds_f { HoldsF s w.old × HoldsN s m.old × Placed starts.now s (numbers_of s m.old) r i v × (eq na 0f ≡ false) }
-    requires ready { Ready (Spans starts.now) s (floats_of s w.old) (numbers_of s m.old) }
-    ensures { Acts (Spans starts.now) s (floats_of s w.old) (numbers_of s m.old) (floats_of s w.new)
-        (numbers_of s m.new) (λ M u. with_row r (rebound_row M defs.ge_form u (row_of u r) i v a na bp) u) }
-{
-    set_coeff(starts, w, s, r, i, na);
-    let b = space::get_lo(w, s, r);
-    let grown = rewrite_binding(starts, w, m, s, r, v, a, b, bp);
-    space::put_lo(w, s, r, bp - grown);
-}
-
-// = rebound_row
+// = rebound_row, of a rewrite of t to the coefficient na that moves the bound to bp. starts, w, m, s and r are every step's (space
+// says why they stay apart); the rest is the rewrite.
 fn rebound(
     starts: &[usize],
     w: &mut [f64],
     m: &mut [usize],
     s: Shape,
-    f: Form,
     r: usize,
-    i: usize,
-    v: usize,
-    a: f64,
+    form: Form,
+    t: LiveTerm,
     na: f64,
     bp: f64,
 )
-    requires holds_f { HoldsF s w.old × HoldsN s m.old × Placed starts.now s (numbers_of s m.old) r i v × (eq na 0f ≡ false) }
+    requires holds_f { HoldsF s w.old × HoldsN s m.old × Placed starts.now s (numbers_of s m.old) r t.place t.var × (eq na 0f ≡ false) }
     requires ready { Ready (Spans starts.now) s (floats_of s w.old) (numbers_of s m.old) }
     ensures { Acts (Spans starts.now) s (floats_of s w.old) (numbers_of s m.old) (floats_of s w.new)
-        (numbers_of s m.new) (λ M u. with_row r (rebound_row M (form_is f) u (row_of u r) i v a na bp) u) }
+        (numbers_of s m.new) (λ M u. with_row r (rebound_row M (form_is form) u (row_of u r) t.place t.var t.coeff na bp) u) }
 {
-    match f {
+    set_coeff(starts, w, s, r, t.place, na);
+    match form {
         Form::Le => {
-            rebound_le(starts, w, m, s, r, i, v, a, na, bp);
-            return;
+            let b = space::get::<Hi>(w, s, r);
+            let grown = rewrite_binding(starts, w, m, s, r, t, b, bp);
+            space::put::<Hi>(w, s, r, bp + grown);
         }
         Form::Ge => {
-            rebound_ge(starts, w, m, s, r, i, v, a, na, bp);
-            return;
-        }
-        Form::Neither => {
-            return;
+            let b = space::get::<Lo>(w, s, r);
+            let grown = rewrite_binding(starts, w, m, s, r, t, b, bp);
+            space::put::<Lo>(w, s, r, bp - grown);
         }
     }
 }
 
-// = row_after, of the live term at place i, which is v's and has the coefficient a
+// = row_after, of the live term t and its rewrite z, if it is rewritten. starts, w, m, s and r are every step's (space says why they
+// stay apart); form is the row's.
 pub fn row_after(
     starts: &[usize],
     w: &mut [f64],
     m: &mut [usize],
     s: Shape,
-    f: Form,
     r: usize,
-    i: usize,
-    v: usize,
-    a: f64,
-    x: Rewrite,
+    form: Option<Form>,
+    t: LiveTerm,
+    z: Option<Rewrite>,
 )
-    requires r_lt_rows { (r < s.rows) × HoldsF s w.old × HoldsN s m.old × Alive (numbers_of s m.old) r × (i < get_or (numbers_of s m.old).len r 0) × Nonzero (rewrite_is x) }
-    requires v_value { (v ≡ get_or (numbers_of s m.old).vars (get_or starts.now r 0 + i) 0) × (a ≡ get_or (floats_of s w.old).coeffs (get_or starts.now r 0 + i) nan) }
+    requires r_lt_rows { (r < s.rows) × HoldsF s w.old × HoldsN s m.old × Alive (numbers_of s m.old) r × (t.place < get_or (numbers_of s m.old).len r 0) × Nonzero (maybe_rewrite z) }
+    requires v_value { (t.var ≡ get_or (numbers_of s m.old).vars (get_or starts.now r 0 + t.place) 0) × (t.coeff ≡ get_or (floats_of s w.old).coeffs (get_or starts.now r 0 + t.place) nan) }
     requires ready { Ready (Spans starts.now) s (floats_of s w.old) (numbers_of s m.old) }
     ensures { Acts (Spans starts.now) s (floats_of s w.old) (numbers_of s m.old) (floats_of s w.new)
-        (numbers_of s m.new) (λ M u. with_row r (row_after M (form_is f) u (row_of u r) i (term v a) (rewrite_is x)) u) }
+        (numbers_of s m.new) (λ M u. with_row r (row_after M (maybe_form form) u (row_of u r) t.place (term t.var t.coeff) (maybe_rewrite z)) u) }
 {
-    match x {
-        Rewrite::Keeps => {
-            return;
-        }
-        Rewrite::Coeff(na) => {
-            set_coeff(starts, w, s, r, i, na);
-            return;
-        }
-        Rewrite::CoeffBound(na, bp, _) => {
-            rebound(starts, w, m, s, f, r, i, v, a, na, bp);
-            return;
-        }
+    match z {
+        None => {}
+        Some(y) => match y.bound {
+            None => set_coeff(starts, w, s, r, t.place, y.coeff),
+            Some(b) => match form {
+                None => {}
+                Some(f) => rebound(starts, w, m, s, r, f, t, y.coeff, b.to),
+            },
+        },
     }
 }

@@ -8,3 +8,11 @@ mod after;
 mod bindings;
 
 pub use after::row_after;
+
+// A live term of a row: its place among them, its variable and its coefficient before the rewrite.
+#[derive(Clone, Copy)]
+pub struct LiveTerm {
+    pub place: usize,
+    pub var: usize,
+    pub coeff: f64,
+}

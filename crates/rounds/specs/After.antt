@@ -8,6 +8,7 @@ use Rattle.definition.specs.Dual.{dual_fix}
 use Rattle.definition.specs.Rounds.{dual_step, after_waves}
 use Rattle.space.specs.declared.Shape.{Shape}
 use Rattle.space.specs.Store.{Floats, Numbers}
+use Rattle.view.specs.declared.Lists.{Lists}
 use Rattle.view.specs.Call.{Call}
 use Rattle.view.specs.Shows.{Shows}
 use Rattle.view.specs.Inv.{Inv}
@@ -22,22 +23,20 @@ use Rattle.tighten.specs.Tightening.{Tightening}
 use Rattle.tighten.specs.All.{tighten_keeps}
 
 -- what the rounds know of the model: all of its slices but the bounds, the rows of each variable, and the mode
-pub record Running (fs : List Float) (ds ss is : List ℕ) (cs : List Float) (os : List ℕ) (bs : List Float) (js : List ℕ) (j : ℕ) (M : Model) : Type 0 where
+pub record Running (fs : List Float) (lists : Lists) (j : ℕ) (M : Model) : Type 0 where
   pub obj : M.obj ≡ fs
-  pub known : Known ds ss is cs os bs js M
+  pub known : Known lists M
   pub mode : M.mode ≡ j
 
-module _ {fs : List Float} {ds ss is : List ℕ} {cs : List Float} {os : List ℕ} {bs : List Float} {js : List ℕ} {j : ℕ} (M : Model) (p : Running fs ds ss is cs os bs js j M) where
-  pub running_known : Known ds ss is cs os bs js M
+module _ {obj : List Float} {lists : Lists} {mode : ℕ} (M : Model) (p : Running obj lists mode M) where
+  pub running_known : Known lists M
   running_known = p.known
 
-  pub running_tightening : Tightening ds ss is cs os bs M
-  running_tightening =
-      let k = p.known in
-      record { domain = k.domain; starts = k.starts; index = k.index; coeff = k.coeff; cmp = k.cmp; rhs = k.rhs }
+  pub running_tightening : Tightening lists M
+  running_tightening = record { domain = p.known.domain; written = p.known.written }
 
-  pub running_dual : Dual fs ds ss js M
-  running_dual = record { obj = p.obj; domain = p.known.domain; starts = p.known.starts; adj = p.known.adj }
+  pub running_dual : Dual obj lists M
+  running_dual = record { obj = p.obj; domain = p.known.domain; starts = p.known.written.starts; adj = p.known.adj }
 
 -- ---- the definition, by the mode
 after_lp : (M : Model) (w : Work) → is_mip M ≡ false → after_waves M w ≡ (w, false)
@@ -82,36 +81,36 @@ after_keeps {P} {s} =
     }
 
 -- ---- after_waves
-module _ {fs : List Float} {ds ss is : List ℕ} {cs : List Float} {os : List ℕ} {bs : List Float} {js : List ℕ} {j : ℕ} {s : Shape} {f : Floats} {n : Numbers} where
-  pub after_none : j ≡ 0 → ActsBool (Running fs ds ss is cs os bs js j) s f n f n false (λ M. after_waves M)
+module _ {obj : List Float} {lists : Lists} {mode : ℕ} {s : Shape} {f : Floats} {n : Numbers} where
+  pub after_none : mode ≡ 0 → ActsBool (Running obj lists mode) s f n f n false (λ M. after_waves M)
   after_none z =
       record {
         does = λ M o k w p c h i. subst (λ (y : Work × Bool). Shows M f n o y.0) (sym (after_lp M w (is_lp M p.mode z))) h;
         says = λ M o k w p c h i. ap (λ (y : Work × Bool). y.1) (after_lp M w (is_lp M p.mode z));
       }
 
-  module _ {f₁ : Floats} {n₁ : Numbers} {a : Bool} (ne : j ≡ 0 → ⊥) (A : ActsBool (Tightening ds ss is cs os bs) s f n f₁ n₁ a (λ M. tighten_binary_coeffs M)) where
+  module _ {f₁ : Floats} {n₁ : Numbers} {a : Bool} (ne : mode ≡ 0 → ⊥) (A : ActsBool (Tightening lists) s f n f₁ n₁ a (λ M. tighten_binary_coeffs M)) where
     -- the state that the dual step has
-    pub ready_dual : Ready (Running fs ds ss is cs os bs js j) s f n → Ready (Dual fs ds ss js) s f₁ n₁
+    pub ready_dual : Ready (Running obj lists mode) s f n → Ready (Dual obj lists) s f₁ n₁
     ready_dual R = ready_under running_dual (ready_changed R (changes_under running_tightening A) tighten_keeps)
 
     -- mode 1: the coefficients alone
-    pub after_coeffs : (j ≡ 2 → ⊥) → ActsBool (Running fs ds ss is cs os bs js j) s f n f₁ n₁ a (λ M. after_waves M)
+    pub after_coeffs : (mode ≡ 2 → ⊥) → ActsBool (Running obj lists mode) s f n f₁ n₁ a (λ M. after_waves M)
     after_coeffs nt =
         record {
           does = λ M o k w p c h i. subst (λ (y : Work × Bool). Shows M f₁ n₁ o y.0) (sym (whole M w p)) (A.does M o k w (running_tightening M p) c h i);
           says = λ M o k w p c h i. ap (λ (y : Work × Bool). y.1) (whole M w p) ∙ A.says M o k w (running_tightening M p) c h i;
         }
       where
-        whole : (M : Model) (w : Work) → Running fs ds ss is cs os bs js j M → after_waves M w ≡ ((tighten_binary_coeffs M w).0, (tighten_binary_coeffs M w).1)
+        whole : (M : Model) (w : Work) → Running obj lists mode M → after_waves M w ≡ ((tighten_binary_coeffs M w).0, (tighten_binary_coeffs M w).1)
         whole M w p =
             let T = tighten_binary_coeffs M w in
-            let e : eqb M.mode 2 ≡ false = ap (λ (x : ℕ). eqb x 2) p.mode ∙ eqb_differ j 2 nt in
+            let e : eqb M.mode 2 ≡ false = ap (λ (x : ℕ). eqb x 2) p.mode ∙ eqb_differ mode 2 nt in
             after_mip M w (is_mip_lem M p.mode ne) ∙ ap (λ (y : Work × Bool). (y.0, T.1 || y.1)) (dual_off M T.0 e) ∙ ap (λ (b : Bool). (T.0, b)) (or_false T.1)
 
     -- mode 2: both, and the result is whether one of them changed something
-    module _ {f₂ : Floats} {n₂ : Numbers} {b : Bool} (two : j ≡ 2) (B : ActsBool (Dual fs ds ss js) s f₁ n₁ f₂ n₂ b (λ M. dual_fix M)) where
-      after_both : ActsBool (Running fs ds ss is cs os bs js j) s f n f₂ n₂ (a || b) (λ M. after_waves M)
+    module _ {f₂ : Floats} {n₂ : Numbers} {b : Bool} (two : mode ≡ 2) (B : ActsBool (Dual obj lists) s f₁ n₁ f₂ n₂ b (λ M. dual_fix M)) where
+      pub after_both : ActsBool (Running obj lists mode) s f n f₂ n₂ (a || b) (λ M. after_waves M)
       after_both =
           record {
             does = λ M o k w p c h i. subst (λ (y : Work × Bool). Shows M f₂ n₂ o y.0) (sym (whole M w p))
@@ -122,21 +121,15 @@ module _ {fs : List Float} {ds ss is : List ℕ} {cs : List Float} {os : List �
                 ∙ ap (λ (x : Bool). a || x) (B.says M o k (tighten_binary_coeffs M w).0 (running_dual M p) c (shown M o k w p c h i) (kept M k w p c i));
           }
         where
-          shown : (M : Model) (o : List ℕ) (k : ℕ) (w : Work) → Running fs ds ss is cs os bs js j M → Call M s → Shows M f n o w → Inv M k w → Shows M f₁ n₁ o (tighten_binary_coeffs M w).0
+          shown : (M : Model) (o : List ℕ) (k : ℕ) (w : Work) → Running obj lists mode M → Call M s → Shows M f n o w → Inv M k w → Shows M f₁ n₁ o (tighten_binary_coeffs M w).0
           shown M o k w p c h i = A.does M o k w (running_tightening M p) c h i
 
-          kept : (M : Model) (k : ℕ) (w : Work) → Running fs ds ss is cs os bs js j M → Call M s → Inv M k w → Inv M k (tighten_binary_coeffs M w).0
-          kept M k w p c i = (tighten_keeps {P = Running fs ds ss is cs os bs js j} {s = s}).keeps M k w p c i
+          kept : (M : Model) (k : ℕ) (w : Work) → Running obj lists mode M → Call M s → Inv M k w → Inv M k (tighten_binary_coeffs M w).0
+          kept M k w p c i = (tighten_keeps {P = Running obj lists mode} {s = s}).keeps M k w p c i
 
-          whole : (M : Model) (w : Work) → Running fs ds ss is cs os bs js j M
+          whole : (M : Model) (w : Work) → Running obj lists mode M
               → after_waves M w ≡ ((dual_fix M (tighten_binary_coeffs M w).0).0, (tighten_binary_coeffs M w).1 || (dual_fix M (tighten_binary_coeffs M w).0).1)
           whole M w p =
               let T = tighten_binary_coeffs M w in
-              let e : eqb M.mode 2 ≡ true = ap (λ (x : ℕ). eqb x 2) p.mode ∙ eqb_same j 2 two in
+              let e : eqb M.mode 2 ≡ true = ap (λ (x : ℕ). eqb x 2) p.mode ∙ eqb_same mode 2 two in
               after_mip M w (is_mip_lem M p.mode ne) ∙ ap (λ (y : Work × Bool). (y.0, T.1 || y.1)) (dual_on M T.0 e)
-
-      pub after_tightened : a ≡ true → ActsBool (Running fs ds ss is cs os bs js j) s f n f₂ n₂ true (λ M. after_waves M)
-      after_tightened e = subst (λ (x : Bool). ActsBool (Running fs ds ss is cs os bs js j) s f n f₂ n₂ (x || b) (λ M. after_waves M)) e after_both
-
-      pub after_fixed : a ≡ false → ActsBool (Running fs ds ss is cs os bs js j) s f n f₂ n₂ b (λ M. after_waves M)
-      after_fixed e = subst (λ (x : Bool). ActsBool (Running fs ds ss is cs os bs js j) s f n f₂ n₂ (x || b) (λ M. after_waves M)) e after_both

@@ -1,18 +1,17 @@
 -- Rounds while something changes: what is left after n rounds gives the whole.
-use Rattle.std.specs.Prelude.{ℕ, zero, suc, ◌+◌, ◌-◌, ◌≤◌, ◌<◌, ◌≡◌, refl, Bool, true, false, List}
+use Rattle.std.specs.Prelude.{ℕ, zero, suc, ◌+◌, ◌-◌, ◌≤◌, ◌<◌, ◌≡◌, refl, Bool, true, false, List, Ok, Err}
 use Rattle.std.proofs.Common.{arith, ap, sym, ◌∙◌, subst}
 use Rattle.floats.specs.Num.{choose}
+use Rattle.definition.specs.declared.Infeasible.{Infeasible}
 use Rattle.definition.specs.Params.{Params, params}
 use Rattle.definition.specs.Model.{Model}
 use Rattle.definition.specs.Work.{Work, Step, next, ◌>>=◌}
 use Rattle.definition.specs.Wave.{waves}
 use Rattle.definition.specs.Rounds.{after_waves, rounds}
 use Rattle.space.specs.declared.Shape.{Shape}
-use Rattle.space.specs.declared.Step as code
-use Rattle.space.specs.declared.Step.TheVariants.{Stop, Next}
 use Rattle.space.specs.Store.{Floats, Numbers}
 use Rattle.view.specs.Call.{Call}
-use Rattle.view.specs.Shows.{Shows, StepShown}
+use Rattle.view.specs.Shows.{Shows, StepShown, Outcome}
 use Rattle.view.specs.Inv.{Inv}
 use Rattle.view.specs.Lists.{yes, no, either}
 use Rattle.view.specs.Acts.{Ready, Any}
@@ -26,7 +25,7 @@ use Rattle.wave.specs.Again.{left_of, waves_keeps}
 use Rattle.rounds.specs.After.{after_keeps}
 
 -- a contract that asks for P holds where Q, which says more, is known
-pub waves_under : {P Q : Model → Type 0} {s : Shape} {f f' : Floats} {n n' : Numbers} {z : code.Step} {F : Model → Work → Step} → ((M : Model) → Q M → P M)
+pub waves_under : {P Q : Model → Type 0} {s : Shape} {f f' : Floats} {n n' : Numbers} {z : Outcome} {F : Model → Work → Step} → ((M : Model) → Q M → P M)
     → Waves P s f n f' n' z F → Waves Q s f n f' n' z F
 waves_under q t = record { does = λ M o k w p c h i. t.does M o k w (q M p) c h i }
 
@@ -117,11 +116,11 @@ module _ {P : Model → Type 0} {s : Shape} {f₀ f : Floats} {n₀ n : Numbers}
         }
 
     -- after the waves of the next round
-    pub rounding_waved : {f₁ : Floats} {n₁ : Numbers} → Waves P s f n f₁ n₁ Next waves_of → Ready P s f₁ n₁
+    pub rounding_waved : {f₁ : Floats} {n₁ : Numbers} → Waves P s f n f₁ n₁ (Ok tt) waves_of → Ready P s f₁ n₁
     rounding_waved t = ready_afresh rounding_ready t waves_keeps
 
   module _ (T : Rounding P s f₀ n₀ f n cap j) where
-    pub rounding_end : cap ≤ j → Waves P s f₀ n₀ f n Next rounds_of
+    pub rounding_end : cap ≤ j → Waves P s f₀ n₀ f n (Ok tt) rounds_of
     rounding_end l =
         record {
           does = λ M o k w x c h i.
@@ -137,19 +136,19 @@ module _ {P : Model → Type 0} {s : Shape} {f₀ f : Floats} {n₀ n : Numbers}
           let z : cap - j ≡ suc (cap - (j + 1)) = omega (arith, l) in
           sym N.on.holds ∙ ap (λ (y : ℕ). rounds M y N.on.work) z ∙ rounds_one M (cap - (j + 1)) N.on.work
 
-      pub rounding_stop : {f₁ : Floats} {n₁ : Numbers} → Waves P s f n f₁ n₁ Stop waves_of → Waves P s f₀ n₀ f₁ n₁ Stop rounds_of
-      rounding_stop {f₁} {n₁} t =
+      pub rounding_stop : {e₀ : Infeasible} {f₁ : Floats} {n₁ : Numbers} → Waves P s f n f₁ n₁ (Err e₀) waves_of → Waves P s f₀ n₀ f₁ n₁ (Err e₀) rounds_of
+      rounding_stop {e₀} {f₁} {n₁} t =
           record {
             does = λ M o k w x c h i.
                 let N = T.each M o k w x c h i in
                 let a = t.does M N.other k N.on.work x c N.on.shows N.on.inv in
                 record {
                   other = a.other;
-                  step = subst (λ (y : Step). StepShown M f₁ n₁ a.other Stop y) (sym (one_more M w N)) (stopped_then (λ w1. afterwards M (cap - (j + 1)) w1) a.step);
+                  step = subst (λ (y : Step). StepShown M f₁ n₁ a.other (Err e₀) y) (sym (one_more M w N)) (stopped_then (λ w1. afterwards M (cap - (j + 1)) w1) a.step);
                 };
           }
 
-      module _ {f₁ f₂ : Floats} {n₁ n₂ : Numbers} {b : Bool} (t : Waves P s f n f₁ n₁ Next waves_of) (A : ActsBool P s f₁ n₁ f₂ n₂ b (λ M. after_waves M)) where
+      module _ {f₁ f₂ : Floats} {n₁ n₂ : Numbers} {b : Bool} (t : Waves P s f n f₁ n₁ (Ok tt) waves_of) (A : ActsBool P s f₁ n₁ f₂ n₂ b (λ M. after_waves M)) where
         -- the state after the round, and what is left
         round_of : (M : Model) (o : List ℕ) (k : ℕ) (w : Work) → P M → Call M s → Shows M f₀ n₀ o w → Inv M k w → OneRound M f₂ n₂ k w (cap - (j + 1)) b
         round_of M o k w x c h i =
@@ -178,7 +177,7 @@ module _ {P : Model → Type 0} {s : Shape} {f₀ f : Floats} {n₀ n : Numbers}
                   };
             }
 
-        pub rounding_done : b ≡ false → Waves P s f₀ n₀ f₂ n₂ Next rounds_of
+        pub rounding_done : b ≡ false → Waves P s f₀ n₀ f₂ n₂ (Ok tt) rounds_of
         rounding_done e =
             record {
               does = λ M o k w x c h i.

@@ -7,45 +7,30 @@ ghost use Rattle.wave.specs.Begin.{Waves};
 ghost use Rattle.rounds.specs.After.{Running};
 
 use crate::after::after_waves;
-use space::{Shape, Step};
+use definition::Infeasible;
+use space::Shape;
+use view::Lists;
 
 // = rounds, as many as there may be
 pub fn rounds(
     obj: &[f64],
-    domain: &[u8],
-    starts: &[usize],
-    index: &[usize],
-    coeff: &[f64],
-    cmp: &[u8],
-    rhs: &[f64],
-    adj: &[usize],
+    lists: Lists,
     w: &mut [f64],
     m: &mut [usize],
     s: Shape,
     mode: u8,
-) -> Step
+) -> Result<(), Infeasible>
     requires holds_f { HoldsF s w.old × HoldsN s m.old }
-    requires ready { Ready (Running obj.now domain.now starts.now index.now coeff.now cmp.now rhs.now adj.now mode) s (floats_of s w.old) (numbers_of s m.old) }
-    ensures { Waves (Running obj.now domain.now starts.now index.now coeff.now cmp.now
-        rhs.now adj.now mode) s (floats_of s w.old) (numbers_of s m.old) (floats_of s w.new)
+    requires ready { Ready (Running obj.now lists mode) s (floats_of s w.old) (numbers_of s m.old) }
+    ensures { Waves (Running obj.now lists.entry mode) s (floats_of s w.old) (numbers_of s m.old) (floats_of s w.new)
         (numbers_of s m.new) result (λ M u. definition.rounds M M.params.max_rounds u) }
 {
     let cap = formulas::max_rounds();
-    let mut n: usize = 0;
-    while n < cap {
-        match wave::waves(domain, starts, index, coeff, cmp, rhs, adj, w, m, s) {
-            Step::Stop => {
-                return Step::Stop;
-            }
-            Step::Next => {}
-        }
-        if after_waves(
-            obj, domain, starts, index, coeff, cmp, rhs, adj, w, m, s, mode,
-        ) {
-            n += 1;
-        } else {
-            return Step::Next;
+    for n in 0..cap {
+        wave::waves(lists, w, m, s)?;
+        if !after_waves(obj, lists, w, m, s, mode) {
+            return Ok(());
         }
     }
-    Step::Next
+    Ok(())
 }

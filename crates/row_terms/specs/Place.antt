@@ -7,8 +7,8 @@ use Rattle.std.proofs.Math.ListN.{length, take}
 use Rattle.std.proofs.Math.Seq.{slice}
 use Rattle.floats.specs.Num.{choose}
 use Rattle.row_terms.specs.declared.Place.{Place}
-use Rattle.row_terms.specs.RowMark.{mark, marked, marked_mark, mark_one, mark_zero, is_rewritten_lem, is_written}
-use Rattle.row_terms.specs.Parts.{row_part, Least, least_min, part}
+use Rattle.row_terms.specs.RowMark.{mark, marked, marked_mark}
+use Rattle.row_terms.specs.Parts.{row_part, part}
 
 -- as many terms as both parts have
 abbrev pub count_of : ℕ → ℕ → ℕ → List ℕ → List Float → List ℕ → List Float → ℕ
@@ -24,7 +24,7 @@ place_of m from upto index coeff term_index term_coeff =
     let n = count_of m from upto index coeff term_index term_coeff in
     record { rewritten = mark (marked m); start = start_of n from; count = n }
 
--- ---- start_of and row_place, by their tests
+-- ---- start_of, by its test
 pub start_none : {n : ℕ} (f : ℕ) → n ≡ 0 → 0 ≡ start_of n f
 unfolding start_of choose
 start_none {n} f e = rw (eq-eqb n 0 e)
@@ -32,18 +32,6 @@ start_none {n} f e = rw (eq-eqb n 0 e)
 pub start_some : {n : ℕ} (f : ℕ) → (n ≡ 0 → ⊥) → f ≡ start_of n f
 unfolding start_of choose
 start_some {n} f h = rw (ne_eqb n 0 h)
-
-module _ (m f t : ℕ) (index : List ℕ) (coeff : List Float) (term_index : List ℕ) (term_coeff : List Float) {vars : List ℕ} {coeffs : List Float} {n s : ℕ}
-    (v : vars ≡ row_part (marked m) f t index term_index) (c : coeffs ≡ row_part (marked m) f t coeff term_coeff) (l : Least (length vars) (length coeffs) n) (e : s ≡ start_of n f) where
-  place_of_lem : {r : ℕ} → r ≡ mark (marked m) → record { rewritten = r; start = s; count = n } ≡ place_of m f t index coeff term_index term_coeff
-  unfolding place_of
-  place_of_lem d = rw (d, e, least_min l, v, c)
-
-  pub place_rewritten : (m ≡ 0 → ⊥) → record { rewritten = 1; start = s; count = n } ≡ place_of m f t index coeff term_index term_coeff
-  place_rewritten h = place_of_lem (mark_one refl (is_rewritten_lem h))
-
-  pub place_written : m ≡ 0 → record { rewritten = 0; start = s; count = n } ≡ place_of m f t index coeff term_index term_coeff
-  place_written h = place_of_lem (mark_zero refl (is_written h))
 
 -- ---- what stands there: it is in the list, and it is the part
 module _ {A : Type 0} (f t : ℕ) (l : List A) where

@@ -1,7 +1,7 @@
 -- A row leaves.
 use Rattle.std.specs.Prelude.{ℕ, ◌+◌, ◌%◌, ◌^◌, ◌<◌, ◌≡◌, refl, true, false, length, get_or}
 use Rattle.std.proofs.Common.{arith, ap, ◌∙◌, get_or-set_same, get_or-set_other}
-use Rattle.definition.specs.Model.{Model, Row, with_alive, dropped}
+use Rattle.definition.specs.Model.{Model, Row, with_alive}
 use Rattle.definition.specs.Work.{Work, drop_row}
 use Rattle.space.specs.declared.Shape.{Shape}
 use Rattle.space.specs.Store.{Floats, Numbers, put_alive, put_dropped}

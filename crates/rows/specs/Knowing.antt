@@ -1,64 +1,67 @@
 -- What a step on a row knows of the model: the domains, where the rows' spans are, the rows of each variable.
-use Rattle.std.specs.Prelude.{ℕ, ◌+◌, ◌-◌, ◌≤◌, ◌<◌, ◌≡◌, List, length, get_or, Float}
+use Rattle.std.specs.Prelude.{ℕ, ◌+◌, ◌-◌, ◌≤◌, ◌<◌, ◌≡◌, List, length, get_or}
 use Rattle.std.proofs.Common.{arith, ap, sym, ◌∙◌}
 use Rattle.definition.specs.Model.{Model, from, upto, nnz}
 use Rattle.space.specs.declared.Shape.{Shape}
 use Rattle.space.specs.Store.{Floats, Numbers}
+use Rattle.formulas.specs.declared.Limits.{Limits}
 use Rattle.formulas.specs.Bare.{Of}
+use Rattle.view.specs.declared.Lists.{Lists}
 use Rattle.view.specs.Call.{Call}
 use Rattle.view.specs.Acts.{Ready}
 use Rattle.view.specs.Adjacency.{Adjacency, Adj}
 use Rattle.view.specs.Known.{Bounding, Spans, Known}
 use Rattle.readers.specs.Reading.{Domains}
+use Rattle.readers.specs.Limits.{ReadsLimits}
 
 -- the domains and the spans
-pub record Looks (ds ss : List ℕ) (M : Model) : Type 0 where
-  pub domain : M.domain ≡ ds
-  pub starts : M.starts ≡ ss
+pub record Looks (x : Lists) (M : Model) : Type 0 where
+  pub domain : M.domain ≡ x.domain.now
+  pub starts : M.starts ≡ x.rows.starts.now
 
 -- the spans and the rows of each variable
-pub record Marks (ss js : List ℕ) (M : Model) : Type 0 where
-  pub starts : M.starts ≡ ss
-  pub adj : Adjacency M js
+pub record Marks (x : Lists) (M : Model) : Type 0 where
+  pub starts : M.starts ≡ x.rows.starts.now
+  pub adj : Adjacency M x.adj.now
 
 -- all three
-pub record Moves (ds ss js : List ℕ) (M : Model) : Type 0 where
-  pub domain : M.domain ≡ ds
-  pub starts : M.starts ≡ ss
-  pub adj : Adjacency M js
+pub record Moves (x : Lists) (M : Model) : Type 0 where
+  pub domain : M.domain ≡ x.domain.now
+  pub starts : M.starts ≡ x.rows.starts.now
+  pub adj : Adjacency M x.adj.now
 
-module _ {ds ss : List ℕ} (M : Model) (k : Looks ds ss M) where
-  pub looks_spans : Spans ss M
+module _ {x : Lists} (M : Model) (k : Looks x M) where
+  pub looks_spans : Spans x.rows.starts.now M
   looks_spans = record { starts = k.starts }
 
-  pub looks_domains : Domains ds M
+  pub looks_domains : Domains x.domain.now M
   looks_domains = record { domain = k.domain }
 
-module _ {ss js : List ℕ} (M : Model) (k : Marks ss js M) where
-  pub marks_spans : Spans ss M
+module _ {x : Lists} (M : Model) (k : Marks x M) where
+  pub marks_spans : Spans x.rows.starts.now M
   marks_spans = record { starts = k.starts }
 
-  pub marks_adj : Adj js M
+  pub marks_adj : Adj x.adj.now M
   marks_adj = k.adj
 
-module _ {ds ss js : List ℕ} (M : Model) (k : Moves ds ss js M) where
-  pub moves_spans : Spans ss M
+module _ {x : Lists} (M : Model) (k : Moves x M) where
+  pub moves_spans : Spans x.rows.starts.now M
   moves_spans = record { starts = k.starts }
 
-  pub moves_domains : Domains ds M
+  pub moves_domains : Domains x.domain.now M
   moves_domains = record { domain = k.domain }
 
-  pub moves_looks : Looks ds ss M
+  pub moves_looks : Looks x M
   moves_looks = record { domain = k.domain; starts = k.starts }
 
-  pub moves_marks : Marks ss js M
+  pub moves_marks : Marks x M
   moves_marks = record { starts = k.starts; adj = k.adj }
 
-  pub moves_bounding : Bounding ds js M
+  pub moves_bounding : Bounding x M
   moves_bounding = record { domain = k.domain; adj = k.adj }
 
-pub known_moves : {ds ss is : List ℕ} {cs : List Float} {os : List ℕ} {bs : List Float} {js : List ℕ} (M : Model) → Known ds ss is cs os bs js M → Moves ds ss js M
-known_moves M k = record { domain = k.domain; starts = k.starts; adj = k.adj }
+pub known_moves : {x : Lists} (M : Model) → Known x M → Moves x M
+known_moves M k = record { domain = k.domain; starts = k.written.starts; adj = k.adj }
 
 -- ---- a row's span
 pub record SpanAt (ss : List ℕ) (r : ℕ) : Type 0 where
@@ -85,3 +88,8 @@ of_call {r = r} c e g =
       terms = ap (λ (x : List ℕ). get_or x (r + 1) 0 - get_or x r 0) e.starts ∙ sym g;
       params = c.params;
     }
+
+pub of_limits : {M : Model} {s : Shape} {f : Floats} {ss : List ℕ} {r z : ℕ} {x : Limits} → ReadsLimits s f r z x → Call M s → Spans ss M → z ≡ get_or ss (r + 1) 0 - get_or ss r 0 → Of M r x.feas x.terms
+of_limits lim c e g =
+    let o = of_call c e g in
+    record { feas = o.feas ∙ sym lim.feas; terms = o.terms ∙ sym lim.terms; params = o.params }

@@ -1,12 +1,11 @@
 -- A loop over a row's live terms that changes no row: from whatever state the slices showed, they show one that K relates to it.
-use Rattle.std.specs.Prelude.{ℕ, ◌+◌, ◌<◌, ◌≡◌, List, length, get_or, Float}
+use Rattle.std.specs.Prelude.{ℕ, ◌+◌, ◌<◌, ◌≡◌, List, length, get_or, Float, Ok}
 use Rattle.std.proofs.Common.{arith, ap, sym, ◌∙◌, subst}
 use Rattle.std.specs.Float.{nan}
 use Rattle.tolerances.specs.Tol.{term}
 use Rattle.definition.specs.Model.{Model, Row}
 use Rattle.definition.specs.Work.{Work, Step, no_row, no_term}
 use Rattle.space.specs.declared.Shape.{Shape}
-use Rattle.space.specs.declared.Step.TheVariants.{Next}
 use Rattle.space.specs.Store.{Floats, Numbers}
 use Rattle.view.specs.Call.{Call}
 use Rattle.view.specs.Shows.{Shows}
@@ -95,7 +94,7 @@ module _ {P : Model → Type 0} {s : Shape} {f₀ : Floats} {n₀ : Numbers} {f 
 
 -- ---- a row is alive after a step that changes no row
 module _ {P : Model → Type 0} {s : Shape} {f f₁ : Floats} {n n₁ : Numbers} {r : ℕ} (R : Ready P s f n) where
-  pub alive_went : {F : Model → Work → Step} → Tries P s f n f₁ n₁ Next F → ((M : Model) (w : Work) → Same w (F M w)) → r < s.rows → Alive n r → Alive n₁ r
+  pub alive_went : {F : Model → Work → Step} → Tries P s f n f₁ n₁ (Ok tt) F → ((M : Model) (w : Work) → Same w (F M w)) → r < s.rows → Alive n r → Alive n₁ r
   alive_went t g p a =
       let d = went_is (t.does R.model R.other R.left R.work R.known R.call R.shows R.inv) in
       let e = same_next (g R.model R.work) d.is in

@@ -9,16 +9,14 @@ ghost use Rattle.view.specs.Acts.{ActsN, Any};
 ghost use Rattle.readers.specs.Reading.{row_of};
 ghost use Rattle.rows.specs.Knowing.{SpanAt};
 
-use space::Shape;
+use space::{Alive, Dropped, Shape};
 
 // = nnz
 pub fn written_terms(starts: &[usize], r: usize) -> usize
     requires { SpanAt starts.now r }
     ensures { result ≡ get_or starts.now (r + 1) 0 - get_or starts.now r 0 }
 {
-    let a = starts[r];
-    let e = starts[r + 1];
-    e - a
+    starts[r + 1] - starts[r]
 }
 
 // = drop_row, of the row that stands in the state
@@ -26,6 +24,6 @@ pub fn drop_row(m: &mut [usize], s: Shape, r: usize)
     requires { (r < s.rows) × HoldsN s m.old }
     ensures { ActsN Any s (numbers_of s m.old) (numbers_of s m.new) (λ M w. drop_row r (row_of w r) w) }
 {
-    space::put_alive(m, s, r, 0);
-    space::count_dropped(m, s);
+    space::put::<Alive>(m, s, r, 0);
+    space::count::<Dropped>(m, s);
 }

@@ -5,55 +5,43 @@
 
 mod prefixes;
 
-use presolve_file::{FILE_BYTES, TEXT_BYTES};
+use presolve_file::{FILE_BYTES, Presolve, write_report};
 use std::fs::File;
-use std::io::{Read, Write};
+use std::io::Read;
 use std::rt::Files;
 use std::{env, io};
 
 // Of longer files the prefixes are not run.
 const PREFIXES: usize = 7000;
 
-fn print_file(rt: &impl Print, file: &[u8]) -> io::Result<()> {
-    let mut text = [0u8; TEXT_BYTES];
-    let n = presolve_file::file_text(file, &mut text);
-    io::writer(rt).write_all(&text[..n])
-}
-
-fn run_file(rt: &impl Print, file: &[u8]) -> io::Result<()> {
-    print_file(rt, file)?;
+fn run_file(rt: &(impl Print + AllocGlobal), file: &[u8]) -> io::Result<()> {
+    write_report::<Presolve, _>(file, &mut io::writer(rt))?;
     if file.len() <= PREFIXES {
         prefixes::print_prefixes(rt, file)?;
     }
     Ok(())
 }
 
-fn run_open(rt: &impl Print, opened: &mut impl Read) -> io::Result<()> {
+// What a failed read is told with is this program's own.
+fn run_open(rt: &(impl Print + AllocGlobal), opened: &mut impl Read) -> io::Result<()> {
     let mut file = [0u8; FILE_BYTES];
-    let input = standard_input::read_input(opened, &mut file);
-    if input.failed {
-        return Err(io::Error::other("run_examples: a file"));
-    }
-    let n = input.bytes;
+    let read = standard_input::read_input(opened, &mut file);
+    let n = read.map_err(|_| io::Error::other("run_examples: a file"))?;
     run_file(rt, &file[..n])
 }
 
 // A file that cannot be opened is named on standard error.
-fn run_path(rt: &(impl Files + Print + Eprint), path: &str) -> io::Result<()> {
+fn run_path(rt: &(impl Files + Print + Eprint + AllocGlobal), path: &str) -> io::Result<()> {
+    println!(rt; "== {path}")?;
     match File::open(rt, path) {
         Ok(mut opened) => run_open(rt, &mut opened),
         Err(error) => eprintln!(rt; "{path}: {error}"),
     }
 }
 
-fn run_argument(rt: &(impl Files + Print + Eprint), path: &str) -> io::Result<()> {
-    println!(rt; "== {path}")?;
-    run_path(rt, path)
-}
-
 fn main(rt: HostRuntime) -> io::Result<()> {
     for path in env::args(&rt)?.skip(1) {
-        run_argument(&rt, path.as_str())?;
+        run_path(&rt, path.as_str())?;
     }
     Ok(())
 }

@@ -1,35 +1,15 @@
 // Every prefix of a file but the file itself: for each length at which the first line that is printed
 // changes, the length and that line.
-ghost use Rattle.std.specs.Prelude.{IfOk};
-ghost use Rattle.standard_input.specs.Counts.{IsPrefixLen};
-
 use presolve_file::TEXT_BYTES;
 use std::io;
 use std::io::Write;
 
-// How many bytes stand before the first line's end.
-fn first_line(text: &[u8]) -> usize
-    ensures { IsPrefixLen result text.now }
-{
-    for (i, byte) in text.iter().enumerate() {
-        if *byte == b'\n' {
-            return i;
-        }
+// What stands before the first line's end.
+fn first_line(text: &[u8]) -> &[u8] {
+    match text.iter().position(|byte| *byte == b'\n') {
+        Some(end) => &text[..end],
+        None => text,
     }
-    text.len()
-}
-
-fn same(a: &[u8], b: &[u8]) -> bool {
-    a == b
-}
-
-// Puts a line at the start of kept, as far as there is room, and answers how many bytes that is.
-fn keep(line: &[u8], kept: &mut [u8]) -> usize
-    ensures { IsPrefixLen result kept.new }
-{
-    let n = line.len().min(kept.len());
-    kept[..n].copy_from_slice(&line[..n]);
-    n
 }
 
 fn print_line(rt: &impl Print, n: usize, line: &[u8]) -> io::Result<()> {
@@ -38,26 +18,23 @@ fn print_line(rt: &impl Print, n: usize, line: &[u8]) -> io::Result<()> {
     rt.print("\n")
 }
 
-// One prefix. The first j bytes of last are the line that was printed last, before and after.
-fn print_prefix(rt: &impl Print, prefix: &[u8], last: &mut [u8], j: usize) -> io::Result<usize>
-    requires { IsPrefixLen j last.old }
-    ensures { IfOk result (λ n. IsPrefixLen n last.new) }
-{
+// One prefix. last is the line that was printed last, before and after.
+fn print_prefix(rt: &impl Print, prefix: &[u8], last: &mut Vec<u8>) -> io::Result<()> {
     let mut text = [0u8; TEXT_BYTES];
     presolve_file::file_text(prefix, &mut text);
-    let e = first_line(&text);
-    if same(&text[..e], &last[..j]) {
-        return Ok(j);
+    let line = first_line(&text);
+    if line != last.as_slice() {
+        print_line(rt, prefix.len(), line)?;
+        last.clear();
+        last.extend_from_slice(line)?;
     }
-    print_line(rt, prefix.len(), &text[..e])?;
-    Ok(keep(&text[..e], last))
+    Ok(())
 }
 
-pub(crate) fn print_prefixes(rt: &impl Print, file: &[u8]) -> io::Result<()> {
-    let mut last = [0u8; 64];
-    let mut j = 0;
+pub(crate) fn print_prefixes(rt: &(impl Print + AllocGlobal), file: &[u8]) -> io::Result<()> {
+    let mut last = Vec::new(rt.alloc());
     for n in 0..file.len() {
-        j = print_prefix(rt, &file[..n], &mut last, j)?;
+        print_prefix(rt, &file[..n], &mut last)?;
     }
     Ok(())
 }

@@ -1,20 +1,19 @@
 -- settle_alive, settle_row and settle_rows: what they leave, and that the definition's steps keep the invariant.
-use Rattle.std.specs.Prelude.{ℕ, zero, suc, ◌+◌, ◌-◌, ◌≤◌, ◌<◌, ◌≡◌, refl, Bool, true, List, [], ◌∷◌, length, get_or, Float}
+use Rattle.std.specs.Prelude.{ℕ, zero, suc, ◌+◌, ◌-◌, ◌≤◌, ◌<◌, ◌≡◌, refl, Bool, true, List, [], ◌∷◌, length, get_or, Float, Ok, Err}
 use Rattle.std.proofs.Common.{arith, add-one, ◌∙◌, get_or-set_same}
 use Rattle.std.proofs.Math.Path.{ap, sym, subst}
 use Rattle.std.proofs.Math.Bool.{false}
 use Rattle.tolerances.specs.Tol.{Term}
+use Rattle.definition.specs.declared.Infeasible.{Infeasible}
 use Rattle.definition.specs.Model.{Model, Row}
 use Rattle.definition.specs.Work.{Work, with_row, Step, stop, next, ◌>>=◌, no_row, trivial}
 use Rattle.definition.specs.Folds.{fold_fixed}
 use Rattle.definition.specs.Singles.{empty_row_check}
 use Rattle.definition.specs.Emit.{no_terms}
 use Rattle.space.specs.declared.Shape.{Shape}
-use Rattle.space.specs.declared.Step as code
-use Rattle.space.specs.declared.Step.TheVariants.{Stop, Next}
 use Rattle.space.specs.Store.{Floats, Numbers}
 use Rattle.view.specs.Call.{Call}
-use Rattle.view.specs.Shows.{Shows, StepShown, went}
+use Rattle.view.specs.Shows.{Shows, StepShown, went, Outcome}
 use Rattle.view.specs.Inv.{Inv}
 use Rattle.view.specs.Acts.{Ready, Acts, Tries}
 use Rattle.view.specs.Steps.{InvStep, goes, KeepsStep, tries_then, tries_stop, keeps_then, ready_went}
@@ -57,7 +56,7 @@ module _ {P : Model → Type 0} {s : Shape} {f f₁ : Floats} {n n₁ : Numbers}
     len_is : l ≡ length (fold_fixed M r w (row_of w r)).terms
     len_is = el ∙ ((A.does M o k w x c h i).rows r in_rows still_alive).len ∙ ap (λ (y : Row). length y.terms) (folded_row r w in_rows i)
 
-  pub alive_empty : {f₂ : Floats} {n₂ : Numbers} {z : code.Step} → l ≡ 0 → Tries P s f₁ n₁ f₂ n₂ z (λ M u. empty_row_check M r (row_of u r) u)
+  pub alive_empty : {f₂ : Floats} {n₂ : Numbers} {z : Outcome} → l ≡ 0 → Tries P s f₁ n₁ f₂ n₂ z (λ M u. empty_row_check M r (row_of u r) u)
       → Tries P s f n f₂ n₂ z (λ M w. settle_alive M r (fold_fixed M r w (row_of w r)) w)
   unfolding settle_alive
   alive_empty {f₂} {n₂} {z} e T =
@@ -69,13 +68,13 @@ module _ {P : Model → Type 0} {s : Shape} {f f₁ : Floats} {n n₁ : Numbers}
             subst (λ (t : Step). StepShown M f₂ n₂ o z t) (v ∙ sym u) y;
       }
 
-  pub alive_left : (l ≡ 0 → ⊥) → Tries P s f n f₁ n₁ Next (λ M w. settle_alive M r (fold_fixed M r w (row_of w r)) w)
+  pub alive_left : (l ≡ 0 → ⊥) → Tries P s f n f₁ n₁ (Ok tt) (λ M w. settle_alive M r (fold_fixed M r w (row_of w r)) w)
   unfolding settle_alive
   alive_left e =
       record {
         does = λ M o k w x c h i.
             let u = no (empty_row_check M r (fold_fixed M r w (row_of w r)) (folded r M w)) (next (folded r M w)) (some_terms (fold_fixed M r w (row_of w r)).terms (λ q. e (len_is M o k w x c h i ∙ q))) in
-            subst (λ (t : Step). StepShown M f₁ n₁ o Next t) (sym u) (went (A.does M o k w x c h i));
+            subst (λ (t : Step). StepShown M f₁ n₁ o (Ok tt) t) (sym u) (went (A.does M o k w x c h i));
       }
 
 -- ---- settle_row
@@ -84,20 +83,20 @@ module _ {P : Model → Type 0} {ss os : List ℕ} {bs : List Float} {s : Shape}
   trivial_is : (M : Model) → P M → Call M s → trivial M r ≡ t
   trivial_is M x c = let a = known M x in T.tells M a.0 a.1 a.2 c
 
-  pub row_trivial : {f : Floats} {n : Numbers} → t ≡ true → Tries P s f n f n Next (λ M. settle_row M r)
+  pub row_trivial : {f : Floats} {n : Numbers} → t ≡ true → Tries P s f n f n (Ok tt) (λ M. settle_row M r)
   unfolding settle_row
-  row_trivial {f} {n} e = record { does = λ M o k w x c h i. subst (λ (y : Step). StepShown M f n o Next y) (sym (yes _ _ (trivial_is M x c ∙ e))) (went h) }
+  row_trivial {f} {n} e = record { does = λ M o k w x c h i. subst (λ (y : Step). StepShown M f n o (Ok tt) y) (sym (yes _ _ (trivial_is M x c ∙ e))) (went h) }
 
-  pub row_gone : (f : Floats) (n : Numbers) {a : ℕ} → t ≡ false → a ≡ get_or n.alive r 0 → (a ≡ 1 → ⊥) → Tries P s f n f n Next (λ M. settle_row M r)
+  pub row_gone : (f : Floats) (n : Numbers) {a : ℕ} → t ≡ false → a ≡ get_or n.alive r 0 → (a ≡ 1 → ⊥) → Tries P s f n f n (Ok tt) (λ M. settle_row M r)
   unfolding settle_row
   row_gone f n e ea ne =
       record {
         does = λ M o k w x c h i.
             let g : (row_of w r).alive ≡ false = sym (h.alive r (omega (arith, p, c.rows))) ∙ one_not (get_or n.alive r 0) (λ q. ne (ea ∙ q)) in
-            subst (λ (y : Step). StepShown M f n o Next y) (sym (no _ _ (trivial_is M x c ∙ e) ∙ no _ _ g)) (went h);
+            subst (λ (y : Step). StepShown M f n o (Ok tt) y) (sym (no _ _ (trivial_is M x c ∙ e) ∙ no _ _ g)) (went h);
       }
 
-  pub row_live : {f f₁ : Floats} {n n₁ : Numbers} {a : ℕ} {z : code.Step} → t ≡ false → a ≡ get_or n.alive r 0 → a ≡ 1 → Tries P s f n f₁ n₁ z
+  pub row_live : {f f₁ : Floats} {n n₁ : Numbers} {a : ℕ} {z : Outcome} → t ≡ false → a ≡ get_or n.alive r 0 → a ≡ 1 → Tries P s f n f₁ n₁ z
       (λ M w. settle_alive M r (fold_fixed M r w (row_of w r)) w) → Tries P s f n f₁ n₁ z (λ M. settle_row M r)
   unfolding settle_row
   row_live {f₁ = f₁} {n₁ = n₁} {z = z} e ea b U =
@@ -168,7 +167,7 @@ from_keeps {P = P} {s = s} (suc r) p =
 pub record Settling (P : Model → Type 0) (s : Shape) (f₀ : Floats) (n₀ : Numbers) (f : Floats) (n : Numbers) (r : ℕ) : Type 0 where
   pub upto : r ≤ s.rows
   pub ready : Ready P s f n
-  pub tries : Tries P s f₀ n₀ f n Next (λ M. settle_from M r 0)
+  pub tries : Tries P s f₀ n₀ f n (Ok tt) (λ M. settle_from M r 0)
 
 module _ {P : Model → Type 0} {s : Shape} {f : Floats} {n : Numbers} where
   pub settle_start : Ready P s f n → Settling P s f n f n 0
@@ -176,29 +175,29 @@ module _ {P : Model → Type 0} {s : Shape} {f : Floats} {n : Numbers} where
   settle_start R = record { upto = omega arith; ready = R; tries = record { does = λ M o k w x c h i. went h } }
 
 module _ {P : Model → Type 0} {s : Shape} {f₀ : Floats} {n₀ : Numbers} {f : Floats} {n : Numbers} {r : ℕ} (S : Settling P s f₀ n₀ f n r) where
-  one_more : {f₁ : Floats} {n₁ : Numbers} {z : code.Step} → Tries P s f n f₁ n₁ z (λ M. settle_row M r) → Tries P s f₀ n₀ f₁ n₁ z (λ M. settle_from M (r + 1) 0)
+  one_more : {f₁ : Floats} {n₁ : Numbers} {z : Outcome} → Tries P s f n f₁ n₁ z (λ M. settle_row M r) → Tries P s f₀ n₀ f₁ n₁ z (λ M. settle_from M (r + 1) 0)
   one_more {f₁} {n₁} {z} T =
       let U = tries_then S.tries (from_keeps r S.upto) T in
       record { does = λ M o k w x c h i. subst (λ (y : Step). StepShown M f₁ n₁ o z y) (sym (settle_snoc M r w)) (U.does M o k w x c h i) }
 
-  pub settle_turn : {f₁ : Floats} {n₁ : Numbers} {z : code.Step} → r < s.rows → Tries P s f n f₁ n₁ z (λ M. settle_row M r) → z ≡ Next → Settling P s f₀ n₀ f₁ n₁ (r + 1)
+  pub settle_turn : {f₁ : Floats} {n₁ : Numbers} {z : Outcome} → r < s.rows → Tries P s f n f₁ n₁ z (λ M. settle_row M r) → z ≡ Ok tt → Settling P s f₀ n₀ f₁ n₁ (r + 1)
   settle_turn {f₁} {n₁} p U q =
-      let T = subst (λ (y : code.Step). Tries P s f n f₁ n₁ y (λ M. settle_row M r)) q U in
+      let T = subst (λ (y : Outcome). Tries P s f n f₁ n₁ y (λ M. settle_row M r)) q U in
       record { upto = omega (arith, p); ready = ready_went S.ready T (row_keeps r p); tries = one_more T }
 
-  pub settle_stop : {f₁ : Floats} {n₁ : Numbers} {z : code.Step} → r < s.rows → Tries P s f n f₁ n₁ z (λ M. settle_row M r) → z ≡ Stop → Tries P s f₀ n₀ f₁ n₁ Stop (λ M. settle_from M s.rows 0)
-  settle_stop {f₁} {n₁} p T₀ q =
-      let T = subst (λ (y : code.Step). Tries P s f n f₁ n₁ y (λ M. settle_row M r)) q T₀ in
+  pub settle_stop : {f₁ : Floats} {n₁ : Numbers} {z : Outcome} {u : Infeasible} → r < s.rows → Tries P s f n f₁ n₁ z (λ M. settle_row M r) → z ≡ Err u → Tries P s f₀ n₀ f₁ n₁ (Err u) (λ M. settle_from M s.rows 0)
+  settle_stop {f₁} {n₁} {u = u} p T₀ q =
+      let T = subst (λ (y : Outcome). Tries P s f n f₁ n₁ y (λ M. settle_row M r)) q T₀ in
       let U = tries_stop (λ M. settle_from M (s.rows - (r + 1)) (r + 1)) (one_more T) in
       let e : r + 1 + (s.rows - (r + 1)) ≡ s.rows = omega (arith, p) in
       let z : 0 + (r + 1) ≡ r + 1 = omega arith in
       record {
         does = λ M o k w x c h i.
-            subst (λ (y : Step). StepShown M f₁ n₁ o Stop y)
+            subst (λ (y : Step). StepShown M f₁ n₁ o (Err u) y)
             (sym (ap (λ (j : ℕ). settle_from M j 0 w) (sym e) ∙ settle_parts M (r + 1) (s.rows - (r + 1)) 0 w
             ∙ ap (λ (j : ℕ). settle_from M (r + 1) 0 w >>= settle_from M (s.rows - (r + 1)) j) z))
             (U.does M o k w x c h i);
       }
 
-  pub settle_end : s.rows ≤ r → Tries P s f₀ n₀ f n Next (λ M. settle_from M s.rows 0)
-  settle_end p = let e : r ≡ s.rows = omega (arith, p, S.upto) in subst (λ (j : ℕ). Tries P s f₀ n₀ f n Next (λ M. settle_from M j 0)) e S.tries
+  pub settle_end : s.rows ≤ r → Tries P s f₀ n₀ f n (Ok tt) (λ M. settle_from M s.rows 0)
+  settle_end p = let e : r ≡ s.rows = omega (arith, p, S.upto) in subst (λ (j : ℕ). Tries P s f₀ n₀ f n (Ok tt) (λ M. settle_from M j 0)) e S.tries

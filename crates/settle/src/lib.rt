@@ -12,87 +12,64 @@ ghost use Rattle.view.specs.Known.{Written};
 ghost use Rattle.readers.specs.Reading.{row_of, Alive};
 ghost use Rattle.emit.specs.Settled.{settle_alive, settle_row, settle_from};
 
-use space::{Shape, Step};
+use definition::{Infeasible, Rows};
+use space::{Len, Shape};
 
 // = settle_alive, of the row folded
 fn settle_alive(
-    starts: &[usize],
-    index: &[usize],
-    coeff: &[f64],
-    cmp: &[u8],
-    rhs: &[f64],
+    rows: Rows,
     w: &mut [f64],
     m: &mut [usize],
     s: Shape,
     r: usize,
-) -> Step
+) -> Result<(), Infeasible>
     requires r_lt_rows { (r < s.rows) × HoldsF s w.old × HoldsN s m.old × Alive (numbers_of s m.old) r }
-    requires ready { Ready (Written starts.now index.now coeff.now cmp.now rhs.now) s (floats_of s w.old) (numbers_of s m.old) }
-    ensures { Tries (Written starts.now index.now coeff.now cmp.now rhs.now) s
+    requires ready { Ready (Written rows) s (floats_of s w.old) (numbers_of s m.old) }
+    ensures { Tries (Written rows.entry) s
         (floats_of s w.old) (numbers_of s m.old) (floats_of s w.new) (numbers_of s m.new) result
         (λ M u. settle_alive M r (fold_fixed M r u (row_of u r)) u) }
 {
-    folds::fold_row(starts, index, coeff, cmp, rhs, w, m, s, r);
-    let len = space::get_len(m, s, r);
+    folds::fold_row(rows, w, m, s, r);
+    let len = space::get::<Len>(m, s, r);
     if len == 0 {
-        return singles::empty_row_check(starts, index, coeff, cmp, rhs, w, m, s, r);
+        return singles::empty_row_check(rows, w, m, s, r);
     }
-    Step::Next
+    Ok(())
 }
 
 // = settle_row
 fn settle_row(
-    starts: &[usize],
-    index: &[usize],
-    coeff: &[f64],
-    cmp: &[u8],
-    rhs: &[f64],
+    rows: Rows,
     w: &mut [f64],
     m: &mut [usize],
     s: Shape,
     r: usize,
-) -> Step
+) -> Result<(), Infeasible>
     requires r_lt_rows { (r < s.rows) × HoldsF s w.old × HoldsN s m.old }
-    requires ready { Ready (Written starts.now index.now coeff.now cmp.now rhs.now) s (floats_of s w.old) (numbers_of s m.old) }
-    ensures { Tries (Written starts.now index.now coeff.now cmp.now rhs.now) s
+    requires ready { Ready (Written rows) s (floats_of s w.old) (numbers_of s m.old) }
+    ensures { Tries (Written rows.entry) s
         (floats_of s w.old) (numbers_of s m.old) (floats_of s w.new) (numbers_of s m.new) result (λ M. settle_row M r) }
 {
-    if emit::is_trivial(starts, cmp, rhs, s, r) {
-        return Step::Next;
+    if emit::is_trivial(rows, s, r) {
+        return Ok(());
     }
-    let alive = space::get_alive(m, s, r);
+    let alive = space::get::<space::Alive>(m, s, r);
     if alive == 1 {
-        return settle_alive(starts, index, coeff, cmp, rhs, w, m, s, r);
+        return settle_alive(rows, w, m, s, r);
     }
-    Step::Next
+    Ok(())
 }
 
 // = settle_from, of all rows
-pub fn settle_rows(
-    starts: &[usize],
-    index: &[usize],
-    coeff: &[f64],
-    cmp: &[u8],
-    rhs: &[f64],
-    w: &mut [f64],
-    m: &mut [usize],
-    s: Shape,
-) -> Step
+pub fn settle_rows(rows: Rows, w: &mut [f64], m: &mut [usize], s: Shape) -> Result<(), Infeasible>
     requires holds_f { HoldsF s w.old × HoldsN s m.old }
-    requires ready { Ready (Written starts.now index.now coeff.now cmp.now rhs.now) s (floats_of s w.old) (numbers_of s m.old) }
-    ensures { Tries (Written starts.now index.now coeff.now cmp.now rhs.now) s
+    requires ready { Ready (Written rows) s (floats_of s w.old) (numbers_of s m.old) }
+    ensures { Tries (Written rows.entry) s
         (floats_of s w.old) (numbers_of s m.old) (floats_of s w.new) (numbers_of s m.new) result
         (λ M. settle_from M s.rows 0) }
 {
-    let mut r: usize = 0;
-    while r < s.rows {
-        match settle_row(starts, index, coeff, cmp, rhs, w, m, s, r) {
-            Step::Stop => {
-                return Step::Stop;
-            }
-            Step::Next => {}
-        }
-        r += 1;
+    for r in 0..s.rows {
+        settle_row(rows, w, m, s, r)?;
     }
-    Step::Next
+    Ok(())
 }

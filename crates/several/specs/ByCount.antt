@@ -1,18 +1,18 @@
 -- A row by its count of terms.
-use Rattle.std.specs.Prelude.{ℕ, ◌<◌, ◌≡◌, length, get_or, Float}
+use Rattle.std.specs.Prelude.{ℕ, ◌<◌, ◌≡◌, length, get_or}
 use Rattle.std.proofs.Common.{arith, sym, ◌∙◌}
 use Rattle.std.proofs.Math.Path.{refl}
 use mathlib.Core.List.{List, [], ◌∷◌}
 use Rattle.tolerances.specs.Tol.{Term}
 use Rattle.definition.specs.Model.{Model, Row}
-use Rattle.definition.specs.Work.{Work, Step, no_term}
+use Rattle.definition.specs.Work.{Work, no_term}
 use Rattle.definition.specs.Singles.{empty_row_check, singleton_row}
 use Rattle.definition.specs.Wave.{several_terms, by_count}
 use Rattle.space.specs.declared.Shape.{Shape}
-use Rattle.space.specs.declared.Step as code
 use Rattle.space.specs.Store.{Floats, Numbers}
+use Rattle.view.specs.declared.Lists.{Lists}
 use Rattle.view.specs.Call.{Call}
-use Rattle.view.specs.Shows.{Shows}
+use Rattle.view.specs.Shows.{Shows, Outcome}
 use Rattle.view.specs.Inv.{Inv}
 use Rattle.view.specs.Acts.{Tries}
 use Rattle.view.specs.Steps.{InvStep, tries_under}
@@ -48,19 +48,19 @@ len_of : {ss : List ℕ} {s : Shape} {f : Floats} {n : Numbers} {r l : ℕ} {M :
     → l ≡ get_or n.len r 0 → Spans ss M → Call M s → Shows M f n o w → Inv M k w → l ≡ length (row_of w r).terms
 len_of p al el q c h i = el ∙ (row_at c h p al i q).len
 
-module _ {ds ss is : List ℕ} {cs : List Float} {os : List ℕ} {bs : List Float} {js : List ℕ} {s : Shape} {f f' : Floats} {n n' : Numbers} {z : code.Step}
+module _ {lists : Lists} {s : Shape} {f f' : Floats} {n n' : Numbers} {z : Outcome}
     (r : ℕ) {l : ℕ} (p : r < s.rows) (al : Alive n r) (el : l ≡ get_or n.len r 0) where
-  pub by_none : l ≡ 0 → Tries (Written ss is cs os bs) s f n f' n' z (λ M w. empty_row_check M r (row_of w r) w) → Tries (Known ds ss is cs os bs js) s f n f' n' z
+  pub by_none : l ≡ 0 → Tries (Written lists.rows) s f n f' n' z (λ M w. empty_row_check M r (row_of w r) w) → Tries (Known lists) s f n f' n' z
       (λ M w. by_count M r (row_of w r) (row_of w r).terms w)
   by_none e t =
       tries_as (λ M o k w q c h i. count_none M r (row_of w r) w (row_of w r).terms (sym (len_of p al el (known_spans M q) c h i) ∙ e)) (tries_under known_written t)
 
-  pub by_one : l ≡ 1 → Tries (Moves ds ss js) s f n f' n' z (λ M w. singleton_row M r (row_of w r) (get_or (row_of w r).terms 0 no_term) w)
-      → Tries (Known ds ss is cs os bs js) s f n f' n' z (λ M w. by_count M r (row_of w r) (row_of w r).terms w)
+  pub by_one : l ≡ 1 → Tries (Moves lists) s f n f' n' z (λ M w. singleton_row M r (row_of w r) (get_or (row_of w r).terms 0 no_term) w)
+      → Tries (Known lists) s f n f' n' z (λ M w. by_count M r (row_of w r) (row_of w r).terms w)
   by_one e t = tries_as (λ M o k w q c h i. count_one M r (row_of w r) w (row_of w r).terms (sym (len_of p al el (known_spans M q) c h i) ∙ e)) (tries_under known_moves t)
 
-  pub by_more : (l ≡ 0 → ⊥) → (l ≡ 1 → ⊥) → Tries (Moves ds ss js) s f n f' n' z (λ M w. several_terms M r (row_of w r) w)
-      → Tries (Known ds ss is cs os bs js) s f n f' n' z (λ M w. by_count M r (row_of w r) (row_of w r).terms w)
+  pub by_more : (l ≡ 0 → ⊥) → (l ≡ 1 → ⊥) → Tries (Moves lists) s f n f' n' z (λ M w. several_terms M r (row_of w r) w)
+      → Tries (Known lists) s f n f' n' z (λ M w. by_count M r (row_of w r) (row_of w r).terms w)
   by_more e d t =
       tries_as
       (λ M o k w q c h i.

@@ -1,10 +1,11 @@
 -- A row of two terms or more, by the ways through the code; and that it keeps the invariant.
-use Rattle.std.specs.Prelude.{ℕ, ◌+◌, ◌-◌, ◌≡◌, Bool, not, ◌||◌, List, get_or, Float}
+use Rattle.std.specs.Prelude.{ℕ, ◌+◌, ◌-◌, ◌≡◌, Bool, not, ◌||◌, List, get_or, Float, Result, Ok, Err}
 use Rattle.std.proofs.Common.{arith, sym, ◌∙◌}
 use Rattle.std.proofs.Math.Path.{refl, ap}
 use Rattle.std.proofs.Math.Bool.{true, false}
 use Rattle.floats.specs.Num.{choose}
 use Rattle.definition.specs.declared.Activity.{Activity}
+use Rattle.definition.specs.declared.Infeasible.{Infeasible}
 use Rattle.definition.specs.Model.{Model, Row}
 use Rattle.definition.specs.Work.{Work, Step, stop, next, no_row, drop_row}
 use Rattle.definition.specs.Activities.{activity}
@@ -13,16 +14,15 @@ use Rattle.definition.specs.Forcing.{forces_min, forces_max, fix_all}
 use Rattle.definition.specs.Implied.{implied_bounds}
 use Rattle.definition.specs.Wave.{several_terms}
 use Rattle.space.specs.declared.Shape.{Shape}
-use Rattle.space.specs.declared.Step as code
-use Rattle.space.specs.declared.Step.TheVariants.{Stop, Next}
 use Rattle.space.specs.Store.{Floats, Numbers}
 use Rattle.several.specs.declared.several.Ending.{Ending}
 use Rattle.several.specs.declared.several.Ending.TheVariants.{ForceMin, ForceMax, Drop, Open}
 use Rattle.formulas.specs.declared.Limits.{Limits}
-use Rattle.formulas.specs.Bare.{bare, Says, ByParams, unreachable_of, redundant_of}
+use Rattle.formulas.specs.Bare.{bare, Of, Says, ByParams, unreachable_of, redundant_of}
 use Rattle.formulas.specs.Reduce.{may_reduce, may_reduce_of, several_of}
+use Rattle.view.specs.declared.Lists.{Lists}
 use Rattle.view.specs.Call.{Call}
-use Rattle.view.specs.Shows.{Shows}
+use Rattle.view.specs.Shows.{Shows, Outcome}
 use Rattle.view.specs.Inv.{Inv}
 use Rattle.view.specs.Lists.{yes, no, either}
 use Rattle.view.specs.Acts.{Acts, ActsN, Any, Tries, Reads, acts_then}
@@ -31,7 +31,7 @@ use Rattle.view.specs.Known.{Spans}
 use Rattle.view.specs.Bounds.{went_by, stopped_by}
 use Rattle.readers.specs.Reading.{row_of, Alive}
 use Rattle.readers.specs.Limits.{ReadsLimits}
-use Rattle.rows.specs.Knowing.{Looks, Marks, Moves, looks_spans, moves_spans, moves_looks, moves_marks, of_call}
+use Rattle.rows.specs.Knowing.{Looks, Marks, Moves, looks_spans, moves_spans, moves_looks, moves_marks, of_limits}
 use Rattle.rows.specs.Steps.{tries_as, acts_as, acts_any}
 use Rattle.rows.specs.Same.{passes_of, rows_blind, passes_blind, Leaves, halts, same}
 use Rattle.rows.specs.Drop.{inv_drop, drop_passes}
@@ -94,67 +94,92 @@ holds : (b : Bool) → not b ≡ false → b ≡ true
 holds true t = refl
 holds false t = absurd (let z : ◌≡◌ {A = ℕ} 0 1 = (let y = t in cc) in omega arith)
 
-module _ {ds ss : List ℕ} {s : Shape} {f : Floats} {n : Numbers} (r : ℕ) (act : Activity) {e : Activity} {b : Bool} (a : Bool) (t : not a ≡ false)
-    (ea : Reads (Spans ss) s f n e (λ M w. activity M w (row_of w r) false)) (eb : Reads (Looks ds ss) s f n b (λ M w. forces_min M r (row_of w r) act e w)) where
-  reads_end : {z : Ending} → ((M : Model) (o : List ℕ) (k : ℕ) (w : Work) → Looks ds ss M → Call M s → Shows M f n o w → Inv M k w → end_of M r (row_of w r) act e w ≡ z)
-      → Reads (Looks ds ss) s f n z (λ M w. end_if a (end_of M r (row_of w r) act (activity M w (row_of w r) false) w))
+module _ {lists : Lists} {s : Shape} {f : Floats} {n : Numbers} (r : ℕ) (act : Activity) {e : Activity} {b : Bool} (a : Bool) (t : not a ≡ false)
+    (ea : Reads (Spans lists.rows.starts.now) s f n e (λ M w. activity M w (row_of w r) false)) (eb : Reads (Looks lists) s f n b (λ M w. choose true (forces_min M r (row_of w r) act e w) (forces_max M r (row_of w r) act e w))) where
+  reads_end : {z : Ending} → ((M : Model) (o : List ℕ) (k : ℕ) (w : Work) → Looks lists M → Call M s → Shows M f n o w → Inv M k w → end_of M r (row_of w r) act e w ≡ z)
+      → Reads (Looks lists) s f n z (λ M w. end_if a (end_of M r (row_of w r) act (activity M w (row_of w r) false) w))
   unfolding end_if
   reads_end g =
       record { reads = λ M o k w p c h i. rw (holds a t) (ap (λ (y : Activity). end_of M r (row_of w r) act y w) (ea.reads M o k w (looks_spans M p) c h i) ∙ g M o k w p c h i) }
 
-  pub end_min : b ≡ true → Reads (Looks ds ss) s f n ForceMin (λ M w. end_if a (end_of M r (row_of w r) act (activity M w (row_of w r) false) w))
-  unfolding end_of
+  pub end_min : b ≡ true → Reads (Looks lists) s f n ForceMin (λ M w. end_if a (end_of M r (row_of w r) act (activity M w (row_of w r) false) w))
+  unfolding end_of choose
   end_min v = reads_end (λ M o k w p c h i. yes _ _ (eb.reads M o k w p c h i ∙ v))
 
-  module _ {d : Bool} (v : b ≡ false) (ed : Reads (Looks ds ss) s f n d (λ M w. forces_max M r (row_of w r) act e w)) where
-    pub end_max : d ≡ true → Reads (Looks ds ss) s f n ForceMax (λ M w. end_if a (end_of M r (row_of w r) act (activity M w (row_of w r) false) w))
-    unfolding end_of
+  module _ {d : Bool} (v : b ≡ false) (ed : Reads (Looks lists) s f n d (λ M w. choose false (forces_min M r (row_of w r) act e w) (forces_max M r (row_of w r) act e w))) where
+    pub end_max : d ≡ true → Reads (Looks lists) s f n ForceMax (λ M w. end_if a (end_of M r (row_of w r) act (activity M w (row_of w r) false) w))
+    unfolding end_of choose
     end_max u = reads_end (λ M o k w p c h i. no _ _ (eb.reads M o k w p c h i ∙ v) ∙ yes _ _ (ed.reads M o k w p c h i ∙ u))
 
-    module _ {x : Limits} {g : Bool} (al : Alive n r) (u : d ≡ false) (lim : ReadsLimits s f r x) (eg : ByParams g (λ M. redundant M (bare x) act e)) where
+    module _ {x : Limits} {l : ℕ} {g : Bool} (al : Alive n r) (u : d ≡ false) (lim : ReadsLimits s f r l x) (eg : ByParams g (λ M. redundant M (bare x) act e)) where
       redundant_is : {M : Model} {o : List ℕ} {w : Work} → Call M s → Shows M f n o w → redundant M (row_of w r) act e ≡ g
       redundant_is {M} {o} {w} c h = sym (eg.of M c.params ∙ redundant_of M act e (lim.has M n o w c h al))
 
-      pub end_drop : g ≡ true → Reads (Looks ds ss) s f n Drop (λ M w. end_if a (end_of M r (row_of w r) act (activity M w (row_of w r) false) w))
-      unfolding end_of
+      pub end_drop : g ≡ true → Reads (Looks lists) s f n Drop (λ M w. end_if a (end_of M r (row_of w r) act (activity M w (row_of w r) false) w))
+      unfolding end_of choose
       end_drop q = reads_end (λ M o k w p c h i. no _ _ (eb.reads M o k w p c h i ∙ v) ∙ no _ _ (ed.reads M o k w p c h i ∙ u) ∙ yes _ _ (redundant_is c h ∙ q))
 
-      pub end_open : g ≡ false → Reads (Looks ds ss) s f n Open (λ M w. end_if a (end_of M r (row_of w r) act (activity M w (row_of w r) false) w))
-      unfolding end_of
+      pub end_open : g ≡ false → Reads (Looks lists) s f n Open (λ M w. end_if a (end_of M r (row_of w r) act (activity M w (row_of w r) false) w))
+      unfolding end_of choose
       end_open q = reads_end (λ M o k w p c h i. no _ _ (eb.reads M o k w p c h i ∙ v) ∙ no _ _ (ed.reads M o k w p c h i ∙ u) ∙ no _ _ (redundant_is c h ∙ q))
 
 -- ---- reach_of
-module _ {tol : Float} {l : ℕ} (x : Limits) (act : Activity) where
-  pub reach_never : {a b z : Bool} → Says tol l a (λ M r. above_hi M r (bare x) act) → Says tol l b (λ M r. below_lo M r (bare x) act) → z ≡ (a || b) → Says tol l z (λ M r. unreachable M r (bare x) act)
-  unfolding unreachable
-  reach_never {a} {b} p q e =
-      record { of = λ M r o. e ∙ ap (λ (y : Bool). y || b) (p.of M r o) ∙ ap (λ (y : Bool). above_hi M r (bare x) act || y) (q.of M r o) }
+-- no point is left, or whether the row may be forcing or redundant
+unfoldable pub reached : Bool → Bool → Result Bool Infeasible
+reached true a = Err (record {})
+reached false a = Ok a
 
-  pub reach_reduces : {a b d y z : Bool} → Says tol l a (λ M r. near_min M r (bare x) act) → Says tol l b (λ M r. near_max M r (bare x) act) → d ≡ within (bare x) act → y ≡ (a || b) → z ≡ (y || d)
-      → Says tol l z (λ M r. may_reduce M r (bare x) act)
-  unfolding may_reduce
-  reach_reduces {a} {b} {d} p q g e h =
+reached_err : (b a : Bool) {e : Infeasible} → Err e ≡ reached b a → b ≡ true
+unfolding reached
+reached_err true a t = refl
+reached_err false a t = absurd (let z : ◌≡◌ {A = ℕ} 0 1 = (let y = t in cc) in omega arith)
+
+reached_ok : (b a : Bool) {d : Bool} → Ok d ≡ reached b a → (b ≡ false) × (d ≡ a)
+unfolding reached
+reached_ok true a t = absurd (let z : ◌≡◌ {A = ℕ} 0 1 = (let y = t in cc) in omega arith)
+reached_ok false a t = (refl, let y = t in cc)
+
+module _ {tol : Float} {l : ℕ} (x : Limits) (act : Activity) {a b : Bool} (p : Says tol l a (λ M r. above_hi M r (bare x) act)) (q : Says tol l b (λ M r. below_lo M r (bare x) act)) where
+  never_is : {M : Model} {r : ℕ} → Of M r tol l → unreachable M r (bare x) act ≡ (a || b)
+  unfolding unreachable
+  never_is {M} {r} o = sym (ap (λ (y : Bool). y || b) (p.of M r o) ∙ ap (λ (y : Bool). above_hi M r (bare x) act || y) (q.of M r o))
+
+  pub reach_never : {e : Infeasible} → (a || b) ≡ true → Says tol l (Err e) (λ M r. reached (unreachable M r (bare x) act) (may_reduce M r (bare x) act))
+  unfolding reached
+  reach_never t = record { of = λ M r o. rw (never_is o ∙ t) }
+
+  pub reach_reduces : {c d g : Bool} → (a || b) ≡ false → Says tol l c (λ M r. near_min M r (bare x) act) → Says tol l d (λ M r. near_max M r (bare x) act) → g ≡ within (bare x) act
+      → Says tol l (Ok ((c || d) || g)) (λ M r. reached (unreachable M r (bare x) act) (may_reduce M r (bare x) act))
+  unfolding reached may_reduce
+  reach_reduces {c} {d} {g} t u v h =
       record {
         of = λ M r o.
-            h ∙ ap (λ (u : Bool). u || d) (e ∙ ap (λ (u : Bool). u || b) (p.of M r o) ∙ ap (λ (u : Bool). near_min M r (bare x) act || u) (q.of M r o))
-            ∙ ap (λ (u : Bool). near_min M r (bare x) act || near_max M r (bare x) act || u) g;
+            rw (never_is o ∙ t)
+            (ap Ok (ap (λ (y : Bool). (y || d) || g) (u.of M r o) ∙ ap (λ (y : Bool). (near_min M r (bare x) act || y) || g) (v.of M r o)
+            ∙ ap (λ (y : Bool). (near_min M r (bare x) act || near_max M r (bare x) act) || y) h));
       }
 
 -- ---- several_terms
-module _ {ds ss js : List ℕ} {s : Shape} {f : Floats} {n : Numbers} (r : ℕ) {act : Activity} {x : Limits} {l : ℕ} {b : Bool} (al : Alive n r)
-    (ea : Reads (Spans ss) s f n act (λ M w. activity M w (row_of w r) true)) (lim : ReadsLimits s f r x) (en : l ≡ get_or ss (r + 1) 0 - get_or ss r 0)
-    (eb : Says s.feas l b (λ M q. unreachable M q (bare x) act)) where
-  reach_is : {M : Model} {o : List ℕ} {k : ℕ} {w : Work} → Moves ds ss js M → Call M s → Shows M f n o w → Inv M k w → unreachable M r (row_of w r) (activity M w (row_of w r) true) ≡ b
+module _ {lists : Lists} {s : Shape} {f : Floats} {n : Numbers} (r : ℕ) {act : Activity} {x : Limits} {l : ℕ} {y : Result Bool Infeasible} (al : Alive n r)
+    (ea : Reads (Spans lists.rows.starts.now) s f n act (λ M w. activity M w (row_of w r) true)) (lim : ReadsLimits s f r l x) (en : l ≡ get_or lists.rows.starts.now (r + 1) 0 - get_or lists.rows.starts.now r 0)
+    (eb : Says x.feas x.terms y (λ M q. reached (unreachable M q (bare x) act) (may_reduce M q (bare x) act))) where
+  reach_is : {M : Model} {o : List ℕ} {k : ℕ} {w : Work} → Moves lists M → Call M s → Shows M f n o w → Inv M k w
+      → y ≡ reached (unreachable M r (row_of w r) (activity M w (row_of w r) true)) (may_reduce M r (row_of w r) (activity M w (row_of w r) true))
   reach_is {M} {o} {k} {w} p c h i =
-      ap (unreachable M r (row_of w r)) (ea.reads M o k w (moves_spans M p) c h i) ∙ sym (eb.of M r (of_call c (moves_spans M p) en) ∙ unreachable_of M r act (lim.has M n o w c h al))
+      let row = row_of w r in
+      eb.of M r (of_limits lim c (moves_spans M p) en)
+      ∙ ap (λ (b : Bool). reached b (may_reduce M r (bare x) act)) (unreachable_of M r act (lim.has M n o w c h al))
+      ∙ ap (reached (unreachable M r row act)) (may_reduce_of M r act (lim.has M n o w c h al))
+      ∙ ap (λ (d : Activity). reached (unreachable M r row d) (may_reduce M r row d)) (sym (ea.reads M o k w (moves_spans M p) c h i))
 
-  pub several_stop : b ≡ true → Tries (Moves ds ss js) s f n f n Stop (λ M w. several_terms M r (row_of w r) w)
-  several_stop t = record { does = λ M o k w p c h i. stopped_by {w = w} (several_is M r (row_of w r) w ∙ yes _ _ (reach_is p c h i ∙ t)) h }
+  pub several_stop : {e e₀ : Infeasible} → y ≡ Err e → Tries (Moves lists) s f n f n (Err e₀) (λ M w. several_terms M r (row_of w r) w)
+  several_stop t =
+      record { does = λ M o k w p c h i. stopped_by {w = w} (several_is M r (row_of w r) w ∙ yes _ _ (reached_err _ _ (sym t ∙ reach_is p c h i))) h }
 
-  module _ {a : Bool} {z : Ending} (t : b ≡ false) (er : Says s.feas l a (λ M q. may_reduce M q (bare x) act)) (ez : Reads (Looks ds ss) s f n z
+  module _ {a : Bool} {z : Ending} (t : y ≡ Ok a) (ez : Reads (Looks lists) s f n z
       (λ M w. end_if a (end_of M r (row_of w r) act (activity M w (row_of w r) false) w))) where
     -- with or without the look at the emitted activity
-    ends : {M : Model} {o : List ℕ} {k : ℕ} {w : Work} → Moves ds ss js M → Call M s → Shows M f n o w → Inv M k w → several_terms M r (row_of w r) w ≡ ended M r (row_of w r) act w z
+    ends : {M : Model} {o : List ℕ} {k : ℕ} {w : Work} → Moves lists M → Call M s → Shows M f n o w → Inv M k w → several_terms M r (row_of w r) w ≡ ended M r (row_of w r) act w z
     unfolding end_if ended
     ends {M} {o} {k} {w} p c h i = by a refl
       where
@@ -164,33 +189,34 @@ module _ {ds ss js : List ℕ} {s : Shape} {f : Floats} {n : Numbers} (r : ℕ) 
         read : end_if a (end_of M r (row_of w r) act (activity M w (row_of w r) false) w) ≡ z
         read = ez.reads M o k w (moves_looks M p) c h i
 
+        told : (unreachable M r (row_of w r) (activity M w (row_of w r) true) ≡ false) × (a ≡ may_reduce M r (row_of w r) (activity M w (row_of w r) true))
+        told = reached_ok _ _ (sym t ∙ reach_is p c h i)
+
         by : (d : Bool) → a ≡ d → several_terms M r (row_of w r) w ≡ ended M r (row_of w r) act w z
         by true q =
-            several_is M r (row_of w r) w ∙ no _ _ (reach_is p c h i ∙ t)
+            several_is M r (row_of w r) w ∙ no _ _ told.0
             ∙ ap (λ (y : Activity). ended M r (row_of w r) y w (end_of M r (row_of w r) y (activity M w (row_of w r) false) w)) seen
             ∙ ap (ended M r (row_of w r) act w) (ap (λ (d : Bool). end_if d (end_of M r (row_of w r) act (activity M w (row_of w r) false) w)) (sym q) ∙ read)
         by false q =
-            let m : may_reduce M r (row_of w r) (activity M w (row_of w r) true) ≡ false = ap (may_reduce M r (row_of w r)) seen
-            ∙ sym (er.of M r (of_call c (moves_spans M p) en) ∙ may_reduce_of M r act (lim.has M n o w c h al)) ∙ q in
-            several_of M r (row_of w r) w (reach_is p c h i ∙ t) m ∙ ap (λ (y : Activity). implied_bounds M r (row_of w r) y (row_of w r).terms w) seen
+            several_of M r (row_of w r) w told.0 (sym told.1 ∙ q) ∙ ap (λ (y : Activity). implied_bounds M r (row_of w r) y (row_of w r).terms w) seen
             ∙ ap (ended M r (row_of w r) act w) (ap (λ (d : Bool). end_if d (end_of M r (row_of w r) act (activity M w (row_of w r) false) w)) (sym q) ∙ read)
 
-    pub several_min : {f' : Floats} {n' : Numbers} → z ≡ ForceMin → Acts (Marks ss js) s f n f' n'
-        (λ M w. drop_row r (row_of w r) (fix_all M true w (row_of w r).terms w)) → Tries (Moves ds ss js) s f n f' n' Next (λ M w. several_terms M r (row_of w r) w)
+    pub several_min : {f' : Floats} {n' : Numbers} → z ≡ ForceMin → Acts (Marks lists) s f n f' n'
+        (λ M w. drop_row r (row_of w r) (fix_all M true w (row_of w r).terms w)) → Tries (Moves lists) s f n f' n' (Ok tt) (λ M w. several_terms M r (row_of w r) w)
     unfolding ended
     several_min v u = record { does = λ M o k w p c h i. went_by (ends p c h i ∙ ap (ended M r (row_of w r) act w) v) (u.does M o k w (moves_marks M p) c h i) }
 
-    pub several_max : {f' : Floats} {n' : Numbers} → z ≡ ForceMax → Acts (Marks ss js) s f n f' n'
-        (λ M w. drop_row r (row_of w r) (fix_all M false w (row_of w r).terms w)) → Tries (Moves ds ss js) s f n f' n' Next (λ M w. several_terms M r (row_of w r) w)
+    pub several_max : {f' : Floats} {n' : Numbers} → z ≡ ForceMax → Acts (Marks lists) s f n f' n'
+        (λ M w. drop_row r (row_of w r) (fix_all M false w (row_of w r).terms w)) → Tries (Moves lists) s f n f' n' (Ok tt) (λ M w. several_terms M r (row_of w r) w)
     unfolding ended
     several_max v u = record { does = λ M o k w p c h i. went_by (ends p c h i ∙ ap (ended M r (row_of w r) act w) v) (u.does M o k w (moves_marks M p) c h i) }
 
-    pub several_drop : {n' : Numbers} → z ≡ Drop → ActsN Any s n n' (λ M w. drop_row r (row_of w r) w) → Tries (Moves ds ss js) s f n f n' Next (λ M w. several_terms M r (row_of w r) w)
+    pub several_drop : {n' : Numbers} → z ≡ Drop → ActsN Any s n n' (λ M w. drop_row r (row_of w r) w) → Tries (Moves lists) s f n f n' (Ok tt) (λ M w. several_terms M r (row_of w r) w)
     unfolding ended
     several_drop v u = record { does = λ M o k w p c h i. went_by (ends p c h i ∙ ap (ended M r (row_of w r) act w) v) (u.does M f o k w tt c h i) }
 
-    pub several_implied : {f' : Floats} {n' : Numbers} {y : code.Step} → z ≡ Open → Tries (Moves ds ss js) s f n f' n' y
-        (λ M w. implied_bounds M r (row_of w r) act (row_of w r).terms w) → Tries (Moves ds ss js) s f n f' n' y (λ M w. several_terms M r (row_of w r) w)
+    pub several_implied : {f' : Floats} {n' : Numbers} {y : Outcome} → z ≡ Open → Tries (Moves lists) s f n f' n' y
+        (λ M w. implied_bounds M r (row_of w r) act (row_of w r).terms w) → Tries (Moves lists) s f n f' n' y (λ M w. several_terms M r (row_of w r) w)
     unfolding ended
     several_implied v u = tries_as (λ M o k w p c h i. ends p c h i ∙ ap (ended M r (row_of w r) act w) v) u
 

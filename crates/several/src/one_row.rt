@@ -7,34 +7,29 @@ ghost use Rattle.view.specs.Known.{Known};
 ghost use Rattle.readers.specs.Reading.{row_of, Alive};
 
 use crate::several::several_terms;
-use space::{Shape, Step};
+use definition::Infeasible;
+use space::{Len, Shape};
+use view::Lists;
 
 // = by_count
 pub fn by_count(
-    domain: &[u8],
-    starts: &[usize],
-    index: &[usize],
-    coeff: &[f64],
-    cmp: &[u8],
-    rhs: &[f64],
-    adj: &[usize],
+    lists: Lists,
     w: &mut [f64],
     m: &mut [usize],
     s: Shape,
     r: usize,
-) -> Step
+) -> Result<(), Infeasible>
     requires r_lt_rows { (r < s.rows) × HoldsF s w.old × HoldsN s m.old × Alive (numbers_of s m.old) r }
-    requires ready { Ready (Known domain.now starts.now index.now coeff.now cmp.now rhs.now adj.now) s (floats_of s w.old) (numbers_of s m.old) }
-    ensures { Tries (Known domain.now starts.now index.now coeff.now cmp.now rhs.now
-        adj.now) s (floats_of s w.old) (numbers_of s m.old) (floats_of s w.new) (numbers_of s m.new) result
+    requires ready { Ready (Known lists) s (floats_of s w.old) (numbers_of s m.old) }
+    ensures { Tries (Known lists.entry) s (floats_of s w.old) (numbers_of s m.old) (floats_of s w.new) (numbers_of s m.new) result
         (λ M u. by_count M r (row_of u r) (row_of u r).terms u) }
 {
-    let n = space::get_len(m, s, r);
+    let n = space::get::<Len>(m, s, r);
     if n == 0 {
-        return singles::empty_row_check(starts, index, coeff, cmp, rhs, w, m, s, r);
+        singles::empty_row_check(lists.rows, w, m, s, r)
+    } else if n == 1 {
+        singles::singleton_row(lists, w, m, s, r)
+    } else {
+        several_terms(lists, w, m, s, r)
     }
-    if n == 1 {
-        return singles::singleton_row(domain, starts, adj, w, m, s, r);
-    }
-    several_terms(domain, starts, adj, w, m, s, r)
 }

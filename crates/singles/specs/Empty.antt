@@ -1,12 +1,12 @@
 -- A row of no term, by the ways through the code.
-use Rattle.std.specs.Prelude.{ℕ, ◌≡◌, Bool, true, false}
+use Rattle.std.specs.Prelude.{ℕ, ◌≡◌, Bool, true, false, Ok, Err}
 use Rattle.std.proofs.Common.{◌∙◌}
 use Rattle.tolerances.specs.Tol.{violated}
+use Rattle.definition.specs.declared.Infeasible.{Infeasible}
 use Rattle.definition.specs.Model.{Model, Row, written, op_of, rhs_of}
 use Rattle.definition.specs.Work.{Work, drop_row}
 use Rattle.definition.specs.Singles.{fixed_value, empty_row_check}
 use Rattle.space.specs.declared.Shape.{Shape}
-use Rattle.space.specs.declared.Step.TheVariants.{Stop, Next}
 use Rattle.space.specs.Store.{Floats, Numbers}
 use Rattle.view.specs.Inv.{Inv}
 use Rattle.view.specs.Lists.{yes, no, either}
@@ -18,11 +18,11 @@ use Rattle.rows.specs.Same.{passes_of, Leaves, halts, same}
 use Rattle.rows.specs.Drop.{inv_drop, drop_passes}
 
 module _ {P : Model → Type 0} {s : Shape} {f : Floats} {n : Numbers} (r : ℕ) {b : Bool} (g : ReadsF P s f b (λ M w. violated M.feas (op_of M r) (written M r) (rhs_of M r) (fixed_value w))) where
-  pub empty_stop : b ≡ true → Tries P s f n f n Stop (λ M w. empty_row_check M r (row_of w r) w)
+  pub empty_stop : {e₀ : Infeasible} → b ≡ true → Tries P s f n f n (Err e₀) (λ M w. empty_row_check M r (row_of w r) w)
   unfolding empty_row_check
   empty_stop e = record { does = λ M o k w p c h i. stopped_by {w = w} (yes _ _ (g.reads M n o k w p c h i ∙ e)) h }
 
-  pub empty_drop : {n' : Numbers} → b ≡ false → ActsN Any s n n' (λ M w. drop_row r (row_of w r) w) → Tries P s f n f n' Next (λ M w. empty_row_check M r (row_of w r) w)
+  pub empty_drop : {n' : Numbers} → b ≡ false → ActsN Any s n n' (λ M w. drop_row r (row_of w r) w) → Tries P s f n f n' (Ok tt) (λ M w. empty_row_check M r (row_of w r) w)
   unfolding empty_row_check
   empty_drop e t = record { does = λ M o k w p c h i. went_by (no _ _ (g.reads M n o k w p c h i ∙ e)) (t.does M f o k w tt c h i) }
 

@@ -1,23 +1,24 @@
 -- A row of one term, by the ways through the code; and that it keeps the invariant.
-use Rattle.std.specs.Prelude.{ℕ, ◌+◌, ◌-◌, ◌<◌, ◌≡◌, refl, Bool, true, false, ◌&&◌, List, get_or, Float}
+use Rattle.std.specs.Prelude.{ℕ, ◌+◌, ◌-◌, ◌<◌, ◌≡◌, refl, Bool, true, false, ◌&&◌, List, get_or, Float, Ok, Err}
 use Rattle.std.proofs.Common.{arith, ap, sym, ◌∙◌}
 use Rattle.std.proofs.Math.Path.{subst}
 use Rattle.std.specs.Float.{nan}
 use Rattle.floats.specs.Num.{choose, gt}
 use Rattle.tolerances.specs.Tol.{Term, term, at}
+use Rattle.definition.specs.declared.Infeasible.{Infeasible}
 use Rattle.definition.specs.Model.{Model, Row, is_int}
-use Rattle.definition.specs.Work.{Work, Step, stop, next, ◌>>=◌, no_term, no_row, drop_row, bound_tol}
+use Rattle.definition.specs.Work.{Work, Step, stop, next, ◌>>=◌, no_term, no_row, drop_row}
 use Rattle.definition.specs.Bounds.{emit_bounds}
 use Rattle.definition.specs.Singles.{new_lower, new_upper, singleton_int, singleton_misses, singleton_bounds, lower_meets, upper_meets, singleton_drop, singleton_row}
 use Rattle.space.specs.declared.Shape.{Shape}
-use Rattle.space.specs.declared.Step as code
-use Rattle.space.specs.declared.Step.TheVariants.{Stop, Next}
 use Rattle.space.specs.Store.{Floats, Numbers}
 use Rattle.formulas.specs.declared.Limits.{Limits}
+use Rattle.formulas.specs.declared.Ends.{Ends}
 use Rattle.formulas.specs.Bare.{bare, Says, ByTol, new_lower_of, new_upper_of}
 use Rattle.formulas.specs.Singles.{lower_side, upper_side, lower_side_of, upper_side_of, singleton_of, misses_at, meets_lower, meets_upper, misses_of, lower_meets_of, upper_meets_of}
+use Rattle.view.specs.declared.Lists.{Lists}
 use Rattle.view.specs.Call.{Call}
-use Rattle.view.specs.Shows.{Shows, StepShown}
+use Rattle.view.specs.Shows.{Shows, Outcome, StepShown}
 use Rattle.view.specs.Inv.{Inv}
 use Rattle.view.specs.Lists.{yes, no, either}
 use Rattle.view.specs.Acts.{Ready, Acts, ActsN, Any, Tries, Reads}
@@ -26,10 +27,11 @@ use Rattle.view.specs.Known.{Spans}
 use Rattle.view.specs.Adjacency.{Adj}
 use Rattle.view.specs.Bounds.{elo_is, ehi_is, went_by, stopped_by}
 use Rattle.bounds.specs.Moves.{inv_emit}
-use Rattle.readers.specs.Reading.{row_of, Alive, ReadsF, ReadsM, Domains}
+use Rattle.readers.specs.Reading.{row_of, Alive, ReadsM, Domains}
 use Rattle.readers.specs.Limits.{ReadsLimits}
+use Rattle.readers.specs.Vars.{ReadsEnds}
 use Rattle.readers.specs.RowAt.{row_at, live_place, live_var}
-use Rattle.rows.specs.Knowing.{Marks, Moves, marks_spans, marks_adj, moves_spans, moves_domains, moves_marks, of_call}
+use Rattle.rows.specs.Knowing.{Marks, Moves, marks_spans, marks_adj, moves_spans, moves_domains, moves_marks, of_limits}
 use Rattle.rows.specs.Same.{Blind, passes_of, rows_blind, passes_blind, Leaves, Same, halts, same, same_next, same_then, emit_leaves}
 use Rattle.rows.specs.Steps.{tries_as, stopped_then, inv_next, inv_then}
 use Rattle.rows.specs.Drop.{inv_drop, drop_passes}
@@ -39,61 +41,59 @@ pub record ReadsRow {A : Type 0} (P : Model → Type 0) (s : Shape) (f : Floats)
   pub reads : (n : Numbers) → Alive n r → Reads P s f n z F
 
 -- ---- singleton_int
-module _ {ss js : List ℕ} {s : Shape} {f : Floats} {n : Numbers} (r v : ℕ) (a blo bhi : Float) {x : Limits} {l : ℕ} {el eh lo hi : Float} (al : Alive n r)
-    (lim : ReadsLimits s f r x) (en : l ≡ get_or ss (r + 1) 0 - get_or ss r 0)
-    (e₁ : el ≡ get_or f.elo v nan) (e₂ : eh ≡ get_or f.ehi v nan) (e₃ : Says s.feas l lo (λ M q. new_lower M q (bare x) a blo el))
-    (e₄ : Says s.feas l hi (λ M q. new_upper M q (bare x) a bhi eh)) where
-  lower_is : {M : Model} {o : List ℕ} {w : Work} → Marks ss js M → Call M s → Shows M f n o w → new_lower M r (row_of w r) a blo (at w.elo v) ≡ lo
+module _ {lists : Lists} {s : Shape} {f : Floats} {n : Numbers} (r v : ℕ) (a blo bhi : Float) {x : Limits} {l : ℕ} {el eh lo hi : Float} (al : Alive n r)
+    (lim : ReadsLimits s f r l x) (en : l ≡ get_or lists.rows.starts.now (r + 1) 0 - get_or lists.rows.starts.now r 0)
+    (e₁ : el ≡ get_or f.elo v nan) (e₂ : eh ≡ get_or f.ehi v nan) (e₃ : Says x.feas x.terms lo (λ M q. new_lower M q (bare x) a blo el))
+    (e₄ : Says x.feas x.terms hi (λ M q. new_upper M q (bare x) a bhi eh)) where
+  lower_is : {M : Model} {o : List ℕ} {w : Work} → Marks lists M → Call M s → Shows M f n o w → new_lower M r (row_of w r) a blo (at w.elo v) ≡ lo
   lower_is {M} {o} {w} p c h =
-      ap (new_lower M r (row_of w r) a blo) (sym (elo_is v h e₁)) ∙ sym (e₃.of M r (of_call c (marks_spans M p) en) ∙ new_lower_of M r a blo el (lim.has M n o w c h al))
+      ap (new_lower M r (row_of w r) a blo) (sym (elo_is v h e₁)) ∙ sym (e₃.of M r (of_limits lim c (marks_spans M p) en) ∙ new_lower_of M r a blo el (lim.has M n o w c h al))
 
-  upper_is : {M : Model} {o : List ℕ} {w : Work} → Marks ss js M → Call M s → Shows M f n o w → new_upper M r (row_of w r) a bhi (at w.ehi v) ≡ hi
+  upper_is : {M : Model} {o : List ℕ} {w : Work} → Marks lists M → Call M s → Shows M f n o w → new_upper M r (row_of w r) a bhi (at w.ehi v) ≡ hi
   upper_is {M} {o} {w} p c h =
-      ap (new_upper M r (row_of w r) a bhi) (sym (ehi_is v h e₂)) ∙ sym (e₄.of M r (of_call c (marks_spans M p) en) ∙ new_upper_of M r a bhi eh (lim.has M n o w c h al))
+      ap (new_upper M r (row_of w r) a bhi) (sym (ehi_is v h e₂)) ∙ sym (e₄.of M r (of_limits lim c (marks_spans M p) en) ∙ new_upper_of M r a bhi eh (lim.has M n o w c h al))
 
-  int_is : {M : Model} {o : List ℕ} {w : Work} → Marks ss js M → Call M s → Shows M f n o w → singleton_int M r (row_of w r) v a blo bhi w
+  int_is : {M : Model} {o : List ℕ} {w : Work} → Marks lists M → Call M s → Shows M f n o w → singleton_int M r (row_of w r) v a blo bhi w
       ≡ choose (gt lo hi) (stop w.counts) (next (emit_bounds M v lo hi w))
   unfolding singleton_int
   int_is {M} {o} {w} p c h = rw (lower_is p c h, upper_is p c h)
 
-  pub int_stop : gt lo hi ≡ true → Tries (Marks ss js) s f n f n Stop (λ M w. singleton_int M r (row_of w r) v a blo bhi w)
+  pub int_stop : {e₀ : Infeasible} → gt lo hi ≡ true → Tries (Marks lists) s f n f n (Err e₀) (λ M w. singleton_int M r (row_of w r) v a blo bhi w)
   int_stop e = record { does = λ M o k w p c h i. stopped_by {w = w} (int_is p c h ∙ yes _ _ e) h }
 
-  pub int_emit : {f' : Floats} {n' : Numbers} → gt lo hi ≡ false → Acts (Adj js) s f n f' n' (λ M. emit_bounds M v lo hi) → Tries (Marks ss js) s f n f' n' Next
+  pub int_emit : {f' : Floats} {n' : Numbers} → gt lo hi ≡ false → Acts (Adj lists.adj.now) s f n f' n' (λ M. emit_bounds M v lo hi) → Tries (Marks lists) s f n f' n' (Ok tt)
       (λ M w. singleton_int M r (row_of w r) v a blo bhi w)
   int_emit e t = record { does = λ M o k w p c h i. went_by (int_is p c h ∙ no _ _ e) (t.does M o k w (marks_adj M p) c h i) }
 
 -- ---- singleton_misses
-pub misses_is : {ss : List ℕ} {s : Shape} {f : Floats} (r v : ℕ) (a blo bhi : Float) {x : Limits} {l : ℕ} {el eh low high : Float} {z : Bool}
-    → ReadsLimits s f r x → l ≡ get_or ss (r + 1) 0 - get_or ss r 0 → el ≡ get_or f.elo v nan → eh ≡ get_or f.ehi v nan
-    → ReadsF Any s f low (λ M w. bound_tol M w v false) → ReadsF Any s f high (λ M w. bound_tol M w v true) → Says s.feas l z (λ M q. misses_at M q (bare x) a blo bhi el eh low high)
-    → ReadsRow (Spans ss) s f r z (λ M w. singleton_misses M r (row_of w r) v a blo bhi w)
-misses_is r v a blo bhi lim en e₁ e₂ t₁ t₂ ez =
+pub misses_is : {ss : List ℕ} {s : Shape} {f : Floats} (r v : ℕ) (a blo bhi : Float) {x : Limits} {l : ℕ} {e : Ends} {z : Bool} → ReadsLimits s f r l x → l ≡ get_or ss (r + 1) 0 - get_or ss r 0
+    → ReadsEnds s f v e → Says x.feas x.terms z (λ M q. misses_at M q (bare x) a blo bhi e.lo e.hi e.tol_lo e.tol_hi) → ReadsRow (Spans ss) s f r z (λ M w. singleton_misses M r (row_of w r) v a blo bhi w)
+misses_is r v a blo bhi lim en e ez =
     record {
       reads = λ n al.
           record {
             reads = λ M o k w p c h i.
                 sym (misses_of M v a w r blo bhi (lim.has M n o w c h al))
-                ∙ cc (elo_is v h e₁, ehi_is v h e₂, t₁.reads M n o k w tt c h i, t₂.reads M n o k w tt c h i, ez.of M r (of_call c p en));
+                ∙ cc (elo_is v h e.lo, ehi_is v h e.hi, e.tol_lo.reads M n o k w tt c h i, e.tol_hi.reads M n o k w tt c h i, ez.of M r (of_limits lim c p en));
           };
     }
 
 -- ---- singleton_bounds
-module _ {ds ss js : List ℕ} {s : Shape} {f : Floats} {n : Numbers} (r v : ℕ) (a blo bhi : Float) {b : Bool} (eb : ReadsM (Domains ds) s b (λ M. is_int M v)) where
-  pub bounds_int : {f' : Floats} {n' : Numbers} {z : code.Step} → b ≡ true → Tries (Marks ss js) s f n f' n' z
-      (λ M w. singleton_int M r (row_of w r) v a blo bhi w) → Tries (Moves ds ss js) s f n f' n' z (λ M w. singleton_bounds M r (row_of w r) v a blo bhi w)
+module _ {lists : Lists} {s : Shape} {f : Floats} {n : Numbers} (r v : ℕ) (a blo bhi : Float) {b : Bool} (eb : ReadsM (Domains lists.domain.now) s b (λ M. is_int M v)) where
+  pub bounds_int : {f' : Floats} {n' : Numbers} {z : Outcome} → b ≡ true → Tries (Marks lists) s f n f' n' z
+      (λ M w. singleton_int M r (row_of w r) v a blo bhi w) → Tries (Moves lists) s f n f' n' z (λ M w. singleton_bounds M r (row_of w r) v a blo bhi w)
   unfolding singleton_bounds
   bounds_int e t = tries_as (λ M o k w p c h i. yes _ _ (eb.reads M (moves_domains M p) c ∙ e)) (tries_under moves_marks t)
 
-  module _ {d : Bool} (al : Alive n r) (ed : ReadsRow (Spans ss) s f r d (λ M w. singleton_misses M r (row_of w r) v a blo bhi w)) where
-    pub bounds_stop : b ≡ false → d ≡ true → Tries (Moves ds ss js) s f n f n Stop (λ M w. singleton_bounds M r (row_of w r) v a blo bhi w)
+  module _ {d : Bool} (al : Alive n r) (ed : ReadsRow (Spans lists.rows.starts.now) s f r d (λ M w. singleton_misses M r (row_of w r) v a blo bhi w)) where
+    pub bounds_stop : {e₀ : Infeasible} → b ≡ false → d ≡ true → Tries (Moves lists) s f n f n (Err e₀) (λ M w. singleton_bounds M r (row_of w r) v a blo bhi w)
     unfolding singleton_bounds
     bounds_stop e u =
         record {
           does = λ M o k w p c h i. stopped_by {w = w} (no _ _ (eb.reads M (moves_domains M p) c ∙ e) ∙ yes _ _ ((ed.reads n al).reads M o k w (moves_spans M p) c h i ∙ u)) h;
         }
 
-    pub bounds_leave : b ≡ false → d ≡ false → Tries (Moves ds ss js) s f n f n Next (λ M w. singleton_bounds M r (row_of w r) v a blo bhi w)
+    pub bounds_leave : b ≡ false → d ≡ false → Tries (Moves lists) s f n f n (Ok tt) (λ M w. singleton_bounds M r (row_of w r) v a blo bhi w)
     unfolding singleton_bounds
     bounds_leave e u =
         record {
@@ -101,27 +101,21 @@ module _ {ds ss js : List ℕ} {s : Shape} {f : Floats} {n : Numbers} (r v : ℕ
         }
 
 -- ---- row_implied
-module _ {s : Shape} {f : Floats} (r v : ℕ) (a blo bhi : Float) {x : Limits} {el low : Float} {b : Bool} (lim : ReadsLimits s f r x)
-    (e₁ : el ≡ get_or f.elo v nan) (t₁ : ReadsF Any s f low (λ M w. bound_tol M w v false))
-    (eb : ByTol s.feas b (λ M. meets_lower M (bare x) a blo el low)) where
-  low_is : {M : Model} {n : Numbers} {o : List ℕ} {k : ℕ} {w : Work} → Alive n r → Call M s → Shows M f n o w → Inv M k w → lower_meets M (row_of w r) v a blo w ≡ b
-  low_is {M} {n} {o} {k} {w} al c h i =
-      sym (lower_meets_of M v a w blo (lim.has M n o w c h al)) ∙ cc (elo_is v h e₁, t₁.reads M n o k w tt c h i, eb.of M (sym c.feas))
+module _ {s : Shape} {f : Floats} (r v : ℕ) (a blo bhi : Float) {x : Limits} {l : ℕ} {e : Ends} (lim : ReadsLimits s f r l x) (en : ReadsEnds s f v e) where
+  module _ {M : Model} {n : Numbers} {o : List ℕ} {k : ℕ} {w : Work} (al : Alive n r) (c : Call M s) (h : Shows M f n o w) (i : Inv M k w) where
+    low_is : {b : Bool} → ByTol x.feas b (λ M. meets_lower M (bare x) a blo e.lo e.tol_lo) → lower_meets M (row_of w r) v a blo w ≡ b
+    low_is eb = sym (lower_meets_of M v a w blo (lim.has M n o w c h al)) ∙ cc (elo_is v h en.lo, en.tol_lo.reads M n o k w tt c h i, eb.of M (sym c.feas ∙ sym lim.feas))
 
-  pub implied_not : b ≡ false → ReadsRow Any s f r false (λ M w. lower_meets M (row_of w r) v a blo w && upper_meets M (row_of w r) v a bhi w)
-  implied_not e = record { reads = λ n al. record { reads = λ M o k w p c h i. rw (low_is al c h i ∙ e) } }
+    high_is : {b : Bool} → ByTol x.feas b (λ M. meets_upper M (bare x) a bhi e.hi e.tol_hi) → upper_meets M (row_of w r) v a bhi w ≡ b
+    high_is eb = sym (upper_meets_of M v a w bhi (lim.has M n o w c h al)) ∙ cc (ehi_is v h en.hi, en.tol_hi.reads M n o k w tt c h i, eb.of M (sym c.feas ∙ sym lim.feas))
 
-  pub implied_by : {eh high : Float} {z : Bool} → b ≡ true → eh ≡ get_or f.ehi v nan → ReadsF Any s f high (λ M w. bound_tol M w v true) → ByTol s.feas z (λ M. meets_upper M (bare x) a bhi eh high)
+  pub implied_not : {b : Bool} → ByTol x.feas b (λ M. meets_lower M (bare x) a blo e.lo e.tol_lo) → b ≡ false
+      → ReadsRow Any s f r b (λ M w. lower_meets M (row_of w r) v a blo w && upper_meets M (row_of w r) v a bhi w)
+  implied_not eb g = record { reads = λ n al. record { reads = λ M o k w p c h i. rw (low_is al c h i eb ∙ g) (sym g) } }
+
+  pub implied_by : {b z : Bool} → ByTol x.feas b (λ M. meets_lower M (bare x) a blo e.lo e.tol_lo) → b ≡ true → ByTol x.feas z (λ M. meets_upper M (bare x) a bhi e.hi e.tol_hi)
       → ReadsRow Any s f r z (λ M w. lower_meets M (row_of w r) v a blo w && upper_meets M (row_of w r) v a bhi w)
-  implied_by e e₂ t₂ ez =
-      record {
-        reads = λ n al.
-            record {
-              reads = λ M o k w p c h i.
-                  rw (low_is al c h i ∙ e)
-                  (sym (upper_meets_of M v a w bhi (lim.has M n o w c h al)) ∙ cc (ehi_is v h e₂, t₂.reads M n o k w tt c h i, ez.of M (sym c.feas)));
-            };
-      }
+  implied_by eb g ez = record { reads = λ n al. record { reads = λ M o k w p c h i. rw (low_is al c h i eb ∙ g) (high_is al c h i ez) } }
 
 -- ---- singleton_drop
 module _ {s : Shape} {f : Floats} {n : Numbers} (r v : ℕ) (a blo bhi : Float) {b : Bool} (al : Alive n r) (eb : ReadsRow Any s f r b
@@ -183,16 +177,16 @@ module _ {P : Model → Type 0} {s : Shape} {f : Floats} {n : Numbers} {ss : Lis
       let z : get_or ss r 0 ≡ get_or ss r 0 + 0 = omega arith in
       live_var R q p al {j = 0} {x = v} (omega (arith, one)) (e ∙ ap (λ (j : ℕ). get_or n.vars j 0) z)
 
-module _ {ds ss js : List ℕ} {s : Shape} {f : Floats} {n : Numbers} (r : ℕ) {v : ℕ} {a blo bhi : Float} {x : Limits} (p : r < s.rows) (al : Alive n r)
-    (one : get_or n.len r 0 ≡ 1) (ev : v ≡ get_or n.vars (get_or ss r 0) 0) (ea : a ≡ get_or f.coeffs (get_or ss r 0) nan)
-    (lim : ReadsLimits s f r x) (e₁ : blo ≡ lower_side (bare x) a) (e₂ : bhi ≡ upper_side (bare x) a) where
-  single_is : {M : Model} {o : List ℕ} {k : ℕ} {w : Work} → Moves ds ss js M → Call M s → Shows M f n o w → Inv M k w
+module _ {lists : Lists} {s : Shape} {f : Floats} {n : Numbers} (r : ℕ) {v : ℕ} {a blo bhi : Float} {x : Limits} (p : r < s.rows) (al : Alive n r)
+    (one : get_or n.len r 0 ≡ 1) (ev : v ≡ get_or n.vars (get_or lists.rows.starts.now r 0) 0) (ea : a ≡ get_or f.coeffs (get_or lists.rows.starts.now r 0) nan)
+    {l : ℕ} (lim : ReadsLimits s f r l x) (e₁ : blo ≡ lower_side (bare x) a) (e₂ : bhi ≡ upper_side (bare x) a) where
+  single_is : {M : Model} {o : List ℕ} {k : ℕ} {w : Work} → Moves lists M → Call M s → Shows M f n o w → Inv M k w
       → singleton_row M r (row_of w r) (get_or (row_of w r).terms 0 no_term) w ≡ (singleton_bounds M r (row_of w r) v a blo bhi w >>= λ w1. next (singleton_drop M r (row_of w r) v a blo bhi w1))
   single_is {M} {o} {k} {w} q c h i =
       let row = row_of w r in
       let d = row_at c h p al i (moves_spans M q) in
       let t = d.terms 0 (omega (arith, d.len, one)) in
-      let z : get_or ss r 0 + 0 ≡ get_or ss r 0 = omega arith in
+      let z : get_or lists.rows.starts.now r 0 + 0 ≡ get_or lists.rows.starts.now r 0 = omega arith in
       let bv : (get_or row.terms 0 no_term).var ≡ v = sym t.var ∙ ap (λ (j : ℕ). get_or n.vars j 0) z ∙ sym ev in
       let ba : (get_or row.terms 0 no_term).coeff ≡ a = sym t.coeff ∙ ap (λ (j : ℕ). at f.coeffs j) z ∙ sym ea in
       let bt : get_or row.terms 0 no_term ≡ term v a = λ m. term (bv m) (ba m) in
@@ -202,17 +196,17 @@ module _ {ds ss js : List ℕ} {s : Shape} {f : Floats} {n : Numbers} (r : ℕ) 
       ∙ ap (λ (y : Float). singleton_bounds M r row v a y (upper_side row a) w >>= λ w1. next (singleton_drop M r row v a y (upper_side row a) w1)) b₁
       ∙ ap (λ (y : Float). singleton_bounds M r row v a blo y w >>= λ w1. next (singleton_drop M r row v a blo y w1)) b₂
 
-  pub single_stop : {f₁ : Floats} {n₁ : Numbers} → Tries (Moves ds ss js) s f n f₁ n₁ Stop (λ M w. singleton_bounds M r (row_of w r) v a blo bhi w)
-      → Tries (Moves ds ss js) s f n f₁ n₁ Stop (λ M w. singleton_row M r (row_of w r) (get_or (row_of w r).terms 0 no_term) w)
-  single_stop {f₁} {n₁} t =
+  pub single_stop : {f₁ : Floats} {n₁ : Numbers} {e₀ : Infeasible} → Tries (Moves lists) s f n f₁ n₁ (Err e₀) (λ M w. singleton_bounds M r (row_of w r) v a blo bhi w)
+      → Tries (Moves lists) s f n f₁ n₁ (Err e₀) (λ M w. singleton_row M r (row_of w r) (get_or (row_of w r).terms 0 no_term) w)
+  single_stop {f₁} {n₁} {e₀} t =
       record {
         does = λ M o k w q c h i.
-            subst (λ (z : Step). StepShown M f₁ n₁ o Stop z) (sym (single_is q c h i)) (stopped_then (λ w1. next (singleton_drop M r (row_of w r) v a blo bhi w1)) (t.does M o k w q c h i));
+            subst (λ (z : Step). StepShown M f₁ n₁ o (Err e₀) z) (sym (single_is q c h i)) (stopped_then (λ w1. next (singleton_drop M r (row_of w r) v a blo bhi w1)) (t.does M o k w q c h i));
       }
 
-  pub single_goes : {f₁ : Floats} {n₁ n₂ : Numbers} → Tries (Moves ds ss js) s f n f₁ n₁ Next (λ M w. singleton_bounds M r (row_of w r) v a blo bhi w)
+  pub single_goes : {f₁ : Floats} {n₁ n₂ : Numbers} → Tries (Moves lists) s f n f₁ n₁ (Ok tt) (λ M w. singleton_bounds M r (row_of w r) v a blo bhi w)
       → Acts Any s f₁ n₁ f₁ n₂ (λ M w. singleton_drop M r (row_of w r) v a blo bhi w)
-      → Tries (Moves ds ss js) s f n f₁ n₂ Next (λ M w. singleton_row M r (row_of w r) (get_or (row_of w r).terms 0 no_term) w)
+      → Tries (Moves lists) s f n f₁ n₂ (Ok tt) (λ M w. singleton_row M r (row_of w r) (get_or (row_of w r).terms 0 no_term) w)
   single_goes {f₁} {n₁} {n₂} t u =
       record {
         does = λ M o k w q c h i.

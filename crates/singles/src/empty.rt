@@ -7,29 +7,25 @@ ghost use Rattle.view.specs.Acts.{Ready, Tries};
 ghost use Rattle.view.specs.Known.{Written};
 ghost use Rattle.readers.specs.Reading.{row_of};
 
-use space::{Shape, Step};
+use definition::{Infeasible, Rows};
+use space::Shape;
 
 // = empty_row_check
 pub fn empty_row_check(
-    starts: &[usize],
-    index: &[usize],
-    coeff: &[f64],
-    cmp: &[u8],
-    rhs: &[f64],
+    rows: Rows,
     w: &[f64],
     m: &mut [usize],
     s: Shape,
     r: usize,
-) -> Step
+) -> Result<(), Infeasible>
     requires r_lt_rows { (r < s.rows) × HoldsF s w.now × HoldsN s m.old }
-    requires ready { Ready (Written starts.now index.now coeff.now cmp.now rhs.now) s (floats_of s w.now) (numbers_of s m.old) }
-    ensures { Tries (Written starts.now index.now coeff.now cmp.now rhs.now) s
-        (floats_of s w.now) (numbers_of s m.old) (floats_of s w.now) (numbers_of s m.new) result
-        (λ M u. empty_row_check M r (row_of u r) u) }
+    requires ready { Ready (Written rows) s (floats_of s w.now) (numbers_of s m.old) }
+    ensures { Tries (Written rows.entry) s (floats_of s w.now) (numbers_of s m.old)
+        (floats_of s w.now) (numbers_of s m.new) result (λ M u. empty_row_check M r (row_of u r) u) }
 {
-    if readers::empty_row_violated(starts, index, coeff, cmp, rhs, w, s, r) {
-        return Step::Stop;
+    if readers::empty_row_violated(rows, w, s, r) {
+        return Err(Infeasible);
     }
     rows::drop_row(m, s, r);
-    Step::Next
+    Ok(())
 }

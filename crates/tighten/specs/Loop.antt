@@ -16,9 +16,8 @@ use Rattle.view.specs.Changes.{ActsBool}
 use Rattle.view.specs.Rows.{row_now}
 use Rattle.readers.specs.Reading.{row_of, Alive}
 use Rattle.readers.specs.RowAt.{row_shown, row_alive, row_inv, alive_of}
-use Rattle.tighten.specs.declared.Progress.{Progress}
 use Rattle.tighten.specs.Over.{loop_over, shown, closed, stored_is, shown_over}
-use Rattle.tighten.specs.Carried.{progress_of, carried, Carries}
+use Rattle.tighten.specs.Carried.{Progress, progress_of, carried, Carries}
 use Rattle.tighten.specs.Keeping.{Good, good_shown, step_good, step_length, loop_broke}
 use Rattle.tighten.specs.Step.{step_at}
 

@@ -10,11 +10,14 @@ use Rattle.definition.specs.Activities.{activity}
 use Rattle.definition.specs.Rewrites.{Form, le_form, ge_form, no_form, form_of, vacuous_room}
 use Rattle.definition.specs.Tighten.{eligible, spared, tighten_form, tighten_by, tighten_row}
 use Rattle.definition.specs.Choices.{and_left}
+use Rattle.formulas.specs.declared.Form as forms
+use Rattle.formulas.specs.declared.Form.TheVariants.{Le, Ge}
 use Rattle.formulas.specs.declared.Limits.{Limits}
 use Rattle.formulas.specs.Bare.{bare, ByParams, form_of_of, vacuous_room_of}
-use Rattle.formulas.specs.Rewriting.{spared_at, spared_of}
+use Rattle.formulas.specs.Rewriting.{form_is, spared_at, spared_of}
 use Rattle.space.specs.declared.Shape.{Shape}
 use Rattle.space.specs.Store.{Floats, Numbers, put_coeff_dirty}
+use Rattle.view.specs.declared.Lists.{Lists}
 use Rattle.view.specs.Call.{Call}
 use Rattle.view.specs.Shows.{is_one, Shows}
 use Rattle.view.specs.Inv.{Inv}
@@ -26,7 +29,7 @@ use Rattle.readers.specs.Reading.{row_of, Alive}
 use Rattle.readers.specs.Limits.{ReadsLimits}
 use Rattle.readers.specs.RowAt.{row_shown}
 use Rattle.coeffs.specs.Eligible.{Binaries, count_all}
-use Rattle.tighten.specs.declared.Progress.{Progress}
+use Rattle.tighten.specs.Carried.{begun}
 use Rattle.tighten.specs.Tightening.{Tightening, tightening_spans, tightening_binaries}
 use Rattle.tighten.specs.Queued.{looked, inv_looked, looked_keeps, looked_acts}
 use Rattle.tighten.specs.Keeping.{good_shown, loop_good}
@@ -45,9 +48,6 @@ bool_none : {P : Model → Type 0} {s : Shape} {f : Floats} {n : Numbers} {z : B
 bool_none = record { does = λ M o k w p c h i. h; says = λ M o k w p c h i. refl }
 
 -- ---- tighten_form: the row's activity, the room of its vacuous branch, how many terms are eligible, and whether it is left alone
-abbrev begun : Activity → Bool → Progress
-begun act changed = record { act = act; changed = changed; broke = false }
-
 module _ (M : Model) (form : Form) (r : ℕ) (w : Work) (changed : Bool) where
   abbrev rewritten_as : Activity → Float → Bool → Work × Bool
   rewritten_as act nz b = choose b (w, changed) (loop_at form nz r (begun act changed) M w)
@@ -66,12 +66,12 @@ module _ (M : Model) (form : Form) (r : ℕ) (w : Work) (changed : Bool) where
 abbrev pub form_at : Form → ℕ → Bool → Model → Work → Work × Bool
 form_at form r changed M w = tighten_form M form r (row_of w r) w changed
 
-module _ {ds ss is : List ℕ} {cs : List Float} {os : List ℕ} {bs : List Float} {s : Shape} (form : Form) (r : ℕ) (changed : Bool) {f : Floats} {n : Numbers}
-    (p : r < s.rows) (a : Alive n r) {act : Activity} (A : Reads (Spans ss) s f n act (λ M w. activity M w (row_of w r) true))
-    {lim : Limits} (L : ReadsLimits s f r lim) {nz : Float} (en : nz ≡ vacuous_room form (bare lim) act) {d : ℕ}
-    (E : Reads (Binaries ds ss) s f n d (count_all form nz act r)) {len : ℕ} (el : len ≡ get_or n.len r 0) {b : Bool}
+module _ {lists : Lists} {s : Shape} (form : Form) (r : ℕ) (changed : Bool) {f : Floats} {n : Numbers}
+    (p : r < s.rows) (a : Alive n r) {act : Activity} (A : Reads (Spans lists.rows.starts.now) s f n act (λ M w. activity M w (row_of w r) true))
+    {lim : Limits} {terms : ℕ} (L : ReadsLimits s f r terms lim) {nz : Float} (en : nz ≡ vacuous_room form (bare lim) act) {d : ℕ}
+    (E : Reads (Binaries lists.domain.now lists.rows.starts.now) s f n d (count_all form nz act r)) {len : ℕ} (el : len ≡ get_or n.len r 0) {b : Bool}
     (S : ByParams b (λ M. spared_at M len d)) where
-  tests : (M : Model) (o : List ℕ) (k : ℕ) (w : Work) → Tightening ds ss is cs os bs M → Call M s → Shows M f n o w → Inv M k w → form_at form r changed M w ≡ rewritten_as M form r w changed act nz b
+  tests : (M : Model) (o : List ℕ) (k : ℕ) (w : Work) → Tightening lists M → Call M s → Shows M f n o w → Inv M k w → form_at form r changed M w ≡ rewritten_as M form r w changed act nz b
   tests M o k w m c h i =
       form_is_lem M form r w changed act nz d b
       (A.reads M o k w (tightening_spans M m) c h i)
@@ -79,22 +79,19 @@ module _ {ds ss is : List ℕ} {cs : List Float} {os : List ℕ} {bs : List Floa
       (E.reads M o k w (tightening_binaries M m) c h i)
       (sym (spared_of M (row_of w r) d) ∙ ap (λ (j : ℕ). spared_at M j d) (sym (el ∙ (row_shown c h p a).len)) ∙ sym (S.of M c.params))
 
-  pub form_spared : b ≡ true → ActsBool (Tightening ds ss is cs os bs) s f n f n changed (form_at form r changed)
+  pub form_spared : b ≡ true → ActsBool (Tightening lists) s f n f n changed (form_at form r changed)
   form_spared e = bool_same (form_at form r changed) (λ M w. (w, changed)) (λ M o k w m c h i. tests M o k w m c h i ∙ yes _ _ e) bool_none
 
-  pub form_rewrites : {f' : Floats} {n' : Numbers} {z : Bool} → b ≡ false → ActsBool (Tightening ds ss is cs os bs) s f n f' n' z
-      (loop_at form nz r (record { act = act; changed = changed; broke = false })) → ActsBool (Tightening ds ss is cs os bs) s f n f' n' z
+  pub form_rewrites : {f' : Floats} {n' : Numbers} {z : Bool} → b ≡ false → ActsBool (Tightening lists) s f n f' n' z
+      (loop_at form nz r (begun act changed)) → ActsBool (Tightening lists) s f n f' n' z
       (form_at form r changed)
   form_rewrites e = bool_same (form_at form r changed) (loop_at form nz r (begun act changed)) (λ M o k w m c h i. tests M o k w m c h i ∙ no _ _ e)
 
 -- ---- tighten_alive: by the row's form
-by_le : (M : Model) (r : ℕ) (row : Row) (w : Work) (changed : Bool) → tighten_by M le_form r row w changed ≡ tighten_form M le_form r row w changed
+by_form : (g : forms.Form) (M : Model) (r : ℕ) (row : Row) (w : Work) (changed : Bool) → tighten_by M (form_is g) r row w changed ≡ tighten_form M (form_is g) r row w changed
 unfolding tighten_by
-by_le M r row w changed = refl
-
-by_ge : (M : Model) (r : ℕ) (row : Row) (w : Work) (changed : Bool) → tighten_by M ge_form r row w changed ≡ tighten_form M ge_form r row w changed
-unfolding tighten_by
-by_ge M r row w changed = refl
+by_form Le M r row w changed = refl
+by_form Ge M r row w changed = refl
 
 by_none : (M : Model) (r : ℕ) (row : Row) (w : Work) (changed : Bool) → tighten_by M no_form r row w changed ≡ (w, changed)
 unfolding tighten_by
@@ -103,7 +100,7 @@ by_none M r row w changed = refl
 abbrev pub alive_at : ℕ → Bool → Model → Work → Work × Bool
 alive_at r changed M w = tighten_by M (form_of (row_of w r)) r (row_of w r) (looked r w) changed
 
-form_here : {s : Shape} {f : Floats} {n : Numbers} {r : ℕ} {lim : Limits} {form : Form} → Alive n r → ReadsLimits s f r lim → form ≡ form_of (bare lim)
+form_here : {s : Shape} {f : Floats} {n : Numbers} {r terms : ℕ} {lim : Limits} {form : Form} → Alive n r → ReadsLimits s f r terms lim → form ≡ form_of (bare lim)
     → {M : Model} {o : List ℕ} {w : Work} → Call M s → Shows M f n o w → form_of (row_of w r) ≡ form
 form_here {n = n} a L e {M} {o} {w} c h = sym (form_of_of (L.has M n o w c h a)) ∙ sym e
 
@@ -123,18 +120,12 @@ module _ {P : Model → Type 0} {s : Shape} {f : Floats} {n n₁ : Numbers} (r :
         says = λ M o k w p c h i. t.says M o k (looked r w) p c (a.does M _ o k w p c h i) (inv_looked r w i);
       }
 
-  module _ (changed : Bool) (a : Alive n r) {lim : Limits} (L : ReadsLimits s f r lim) {form : Form} (ef : form ≡ form_of (bare lim)) where
-    pub alive_le : {f' : Floats} {n' : Numbers} {z : Bool} → form ≡ le_form → ActsBool P s f n₁ f' n' z (form_at form r changed) → ActsBool P s f n f' n' z (alive_at r changed)
-    alive_le e t =
-        bool_same (alive_at r changed) (λ M w. form_at form r changed M (looked r w))
-        (λ M o k w p c h i. ap (λ (y : Form). tighten_by M y r (row_of w r) (looked r w) changed) (form_here a L ef c h ∙ e)
-        ∙ by_le M r (row_of w r) (looked r w) changed ∙ ap (λ (y : Form). tighten_form M y r (row_of w r) (looked r w) changed) (sym e)) (then_looked t)
-
-    pub alive_ge : {f' : Floats} {n' : Numbers} {z : Bool} → form ≡ ge_form → ActsBool P s f n₁ f' n' z (form_at form r changed) → ActsBool P s f n f' n' z (alive_at r changed)
-    alive_ge e t =
-        bool_same (alive_at r changed) (λ M w. form_at form r changed M (looked r w))
-        (λ M o k w p c h i. ap (λ (y : Form). tighten_by M y r (row_of w r) (looked r w) changed) (form_here a L ef c h ∙ e)
-        ∙ by_ge M r (row_of w r) (looked r w) changed ∙ ap (λ (y : Form). tighten_form M y r (row_of w r) (looked r w) changed) (sym e)) (then_looked t)
+  module _ (changed : Bool) (a : Alive n r) {lim : Limits} {terms : ℕ} (L : ReadsLimits s f r terms lim) {form : Form} (ef : form ≡ form_of (bare lim)) where
+    pub alive_form : (g : forms.Form) {f' : Floats} {n' : Numbers} {z : Bool} → form ≡ form_is g → ActsBool P s f n₁ f' n' z (form_at (form_is g) r changed)
+        → ActsBool P s f n f' n' z (alive_at r changed)
+    alive_form g e t =
+        bool_same (alive_at r changed) (λ M w. form_at (form_is g) r changed M (looked r w))
+        (λ M o k w p c h i. ap (λ (y : Form). tighten_by M y r (row_of w r) (looked r w) changed) (form_here a L ef c h ∙ e) ∙ by_form g M r (row_of w r) (looked r w) changed) (then_looked t)
 
     pub alive_none : form ≡ no_form → ActsBool P s f n f n₁ changed (alive_at r changed)
     alive_none e =

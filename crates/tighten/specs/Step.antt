@@ -1,7 +1,7 @@
 -- One term of a row at work: it is left alone, or rewritten in the slices.
-use Rattle.std.specs.Prelude.{ℕ, zero, suc, ◌+◌, ◌<◌, ◌≡◌, Bool, true, false, ◌||◌, List, eqb, length, get_or, Float}
+use Rattle.std.specs.Prelude.{ℕ, ◌+◌, ◌<◌, ◌≡◌, Bool, true, false, ◌||◌, List, eqb, length, get_or, Float, Option, None, Some}
+use Rattle.std.proofs.Math.Path.{refl}
 use Rattle.std.proofs.Common.{arith, ap, sym, ◌∙◌, subst}
-use Rattle.std.proofs.Math.Dec.{eqb-suc-zero}
 use Rattle.std.specs.Float.{nan}
 use Rattle.tolerances.specs.Tol.{Term, term}
 use Rattle.definition.specs.declared.Activity.{Activity}
@@ -11,9 +11,12 @@ use Rattle.definition.specs.Rewrites as defs
 use Rattle.definition.specs.Tighten.{Rewriting, queued, binary, rewrite_of, row_after, rewrite_step}
 use Rattle.formulas.specs.declared.Limits.{Limits}
 use Rattle.formulas.specs.Bare.{bare}
-use Rattle.formulas.specs.Rewriting.{rewrite_at, rewrite_of_lem}
+use Rattle.formulas.specs.declared.Rebound.{Rebound}
+use Rattle.formulas.specs.declared.Rewrite as code
+use Rattle.formulas.specs.Rewriting.{bound_is, rewrite_is, maybe_rewrite, rewrite_at, rewrite_of_lem}
 use Rattle.space.specs.declared.Shape.{Shape}
 use Rattle.space.specs.Store.{Floats, Numbers}
+use Rattle.view.specs.declared.Lists.{Lists}
 use Rattle.view.specs.Call.{Call}
 use Rattle.view.specs.Shows.{Shows}
 use Rattle.view.specs.Inv.{Inv}
@@ -27,28 +30,40 @@ use Rattle.readers.specs.RowAt.{row_at, row_alive, alive_of}
 use Rattle.coeffs.specs.Keeping.{Nonzero}
 use Rattle.rewrites.specs.Nonzero.{rewrite_nonzero}
 use Rattle.rewrites.specs.After.{row_after_keeps, after_alive}
-use Rattle.tighten.specs.declared.Progress.{Progress}
 use Rattle.tighten.specs.Tightening.{Tightening, tightening_spans, tightening_written, tightening_domains}
 use Rattle.tighten.specs.Over.{ended, end_of, ended_over, step_is, over, queued_over, shown, stored_is, shown_over}
-use Rattle.tighten.specs.Carried.{progress_of, carried, Carries}
+use Rattle.tighten.specs.Carried.{Progress, progress_of, carried, Carries}
 
 or_of : (a b : Bool) → a ≡ false → (a || b) ≡ b
 or_of a b e = ap (λ (y : Bool). y || b) e
 
-some_rewrite : (n k : ℕ) → n ≡ k → (n ≡ 0 → ⊥) → eqb k 0 ≡ false
-some_rewrite n zero e h = absurd (h e)
-some_rewrite n (suc k) e h = eqb-suc-zero k
+-- the code's answer of a term: nothing, or a rewrite
+rewrites_some : (a : Float) (b : Option Rebound) → eqb (defs.rewrites (bound_is a b)) 0 ≡ false
+unfolding defs.rewrites
+rewrites_some a None = refl
+rewrites_some a (Some b) = refl
+
+keeps_none : eqb (defs.rewrites defs.keeps) 0 ≡ true
+unfolding defs.rewrites
+keeps_none = refl
+
+module _ {ds : List ℕ} {s : Shape} {f : Floats} {F : Model → Work → defs.Rewrite} {y : Option code.Rewrite} where
+  pub term_some : {z : code.Rewrite} → y ≡ Some z → ReadsF (Domains ds) s f (maybe_rewrite y) F → ReadsF (Domains ds) s f (rewrite_is z) F
+  term_some e t = subst (λ (u : Option code.Rewrite). ReadsF (Domains ds) s f (maybe_rewrite u) F) e t
+
+  pub term_none : y ≡ None → ReadsF (Domains ds) s f (maybe_rewrite y) F → ReadsF (Domains ds) s f defs.keeps F
+  term_none e t = subst (λ (u : Option code.Rewrite). ReadsF (Domains ds) s f (maybe_rewrite u) F) e t
 
 -- the step in the state as the slices show it
 abbrev pub step_at : defs.Form → Float → ℕ → ℕ → Progress → Model → Work → Rewriting
 step_at form nz r i x M w = rewrite_step M form nz r i (carried r x w)
 
 -- v and b are the term's as the slices have it, lim the row's four floats, z its rewrite
-module _ {ds ss is : List ℕ} {cs : List Float} {os : List ℕ} {bs : List Float} {s : Shape} (r i : ℕ) {f : Floats} {n : Numbers} (p : r < s.rows)
-    (a : Alive n r) (l : i < get_or n.len r 0) {v : ℕ} {b : Float} (ev : v ≡ get_or n.vars (get_or ss r 0 + i) 0)
-    (eb : b ≡ get_or f.coeffs (get_or ss r 0 + i) nan) (form : defs.Form) (nz : Float) (x : Progress) {lim : Limits} (L : ReadsLimits s f r lim)
-    {z : defs.Rewrite} (T : ReadsF (Domains ds) s f z (λ M w. rewrite_at M (binary M w v) form nz (bare lim) x.act b)) where
-  module _ (M : Model) (o : List ℕ) (k : ℕ) (w : Work) (m : Tightening ds ss is cs os bs M) (c : Call M s) (h : Shows M f n o w) (j : Inv M k w) where
+module _ {lists : Lists} {s : Shape} (r i : ℕ) {f : Floats} {n : Numbers} (p : r < s.rows)
+    (a : Alive n r) (l : i < get_or n.len r 0) {v : ℕ} {b : Float} (ev : v ≡ get_or n.vars (get_or lists.rows.starts.now r 0 + i) 0)
+    (eb : b ≡ get_or f.coeffs (get_or lists.rows.starts.now r 0 + i) nan) (form : defs.Form) (nz : Float) (x : Progress) {lim : Limits} {terms : ℕ} (L : ReadsLimits s f r terms lim)
+    {z : defs.Rewrite} (T : ReadsF (Domains lists.domain.now) s f z (λ M w. rewrite_at M (binary M w v) form nz (bare lim) x.act b)) where
+  module _ (M : Model) (o : List ℕ) (k : ℕ) (w : Work) (m : Tightening lists M) (c : Call M s) (h : Shows M f n o w) (j : Inv M k w) where
     in_row : i < length (row_of w r).terms
     in_row = omega (arith, l, (row_at c h p a j (tightening_spans M m)).len)
 
@@ -104,23 +119,23 @@ module _ {ds ss is : List ℕ} {cs : List Float} {os : List ℕ} {bs : List Floa
           ap (λ (y : Row). ended M r y x.act act (queued r (with_row r next w))) next_row ∙ ap (ended M r next x.act act) (queued_over r next w)
           ∙ ended_over M r next next x.act act (queued r w)
 
-  pub term_nonzero : Ready (Tightening ds ss is cs os bs) s f n → Nonzero z
+  pub term_nonzero : Ready (Tightening lists) s f n → Nonzero z
   term_nonzero R = nonzero R.model R.other R.left R.work R.known R.call R.shows R.inv
 
-  pub step_keeps : {d : ℕ} → x.broke ≡ false → d ≡ defs.rewrites z → d ≡ 0 → Carries (Tightening ds ss is cs os bs) s r f n f n x (step_at form nz r i x)
-  step_keeps xb ed e =
-      let g : eqb (defs.rewrites z) 0 ≡ true = ap (λ (y : ℕ). eqb y 0) (sym ed ∙ e) in
+  pub step_keeps : x.broke ≡ false → z ≡ defs.keeps → Carries (Tightening lists) s r f n f n x (step_at form nz r i x)
+  step_keeps xb e =
+      let g : eqb (defs.rewrites z) 0 ≡ true = ap (λ (y : defs.Rewrite). eqb (defs.rewrites y) 0) e ∙ keeps_none in
       record {
         does = λ M o k w m c h j. subst (Shows M f n o) (sym (stored_is r w) ∙ ap (shown r) (sym (step_left M o k w m c h j xb g))) h;
         says = λ M o k w m c h j. ap progress_of (step_left M o k w m c h j xb g);
       }
 
-  module _ {f₁ : Floats} {n₁ : Numbers} (A : Acts (Spans ss) s f n f₁ n₁ (λ M w. with_row r (row_after M form w (row_of w r) i (term v b) z) w)) where
-    after_shows : (M : Model) (o : List ℕ) (k : ℕ) (w : Work) (m : Tightening ds ss is cs os bs M) (c : Call M s) (h : Shows M f n o w) (j : Inv M k w)
+  module _ {f₁ : Floats} {n₁ : Numbers} (A : Acts (Spans lists.rows.starts.now) s f n f₁ n₁ (λ M w. with_row r (row_after M form w (row_of w r) i (term v b) z) w)) where
+    after_shows : (M : Model) (o : List ℕ) (k : ℕ) (w : Work) (m : Tightening lists M) (c : Call M s) (h : Shows M f n o w) (j : Inv M k w)
         → Shows M f₁ n₁ o (with_row r (next M o k w m c h j) w)
     after_shows M o k w m c h j = A.does M o k w (tightening_spans M m) c h j
 
-    pub after_ready : Ready (Tightening ds ss is cs os bs) s f n → Ready (Written ss is cs os bs) s f₁ n₁
+    pub after_ready : Ready (Tightening lists) s f n → Ready (Written lists.rows) s f₁ n₁
     after_ready R =
         record {
           model = R.model;
@@ -133,16 +148,16 @@ module _ {ds ss is : List ℕ} {cs : List Float} {os : List ℕ} {bs : List Floa
           inv = next_inv R.model R.other R.left R.work R.known R.call R.shows R.inv;
         }
 
-    pub after_live : Ready (Tightening ds ss is cs os bs) s f n → Alive n₁ r
+    pub after_live : Ready (Tightening lists) s f n → Alive n₁ r
     after_live R =
         alive_of R.call (after_shows R.model R.other R.left R.work R.known R.call R.shows R.inv) p
         (ap (λ (y : Row). y.alive) (next_row R.model R.other R.left R.work R.known R.call R.shows R.inv)
         ∙ next_alive R.model R.other R.left R.work R.known R.call R.shows R.inv)
 
-    pub step_rewrites : {d : ℕ} {act : Activity} {f₂ : Floats} {n₂ : Numbers} {y : Progress} → x.broke ≡ false → d ≡ defs.rewrites z → (d ≡ 0 → ⊥) → act ≡ defs.act_after form b z x.act
-        → Carries (Written ss is cs os bs) s r f₁ n₁ f₂ n₂ y (λ M w. ended M r (row_of w r) x.act act (queued r w)) → Carries (Tightening ds ss is cs os bs) s r f n f₂ n₂ y (step_at form nz r i x)
-    step_rewrites {d} {act} {f₂} {n₂} xb ed ne ea E =
-        let g = some_rewrite d (defs.rewrites z) ed ne in
+    pub step_rewrites : (y₁ : code.Rewrite) {act : Activity} {f₂ : Floats} {n₂ : Numbers} {y : Progress} → x.broke ≡ false → z ≡ rewrite_is y₁ → act ≡ defs.act_after form b z x.act
+        → Carries (Written lists.rows) s r f₁ n₁ f₂ n₂ y (λ M w. ended M r (row_of w r) x.act act (queued r w)) → Carries (Tightening lists) s r f n f₂ n₂ y (step_at form nz r i x)
+    step_rewrites y₁ {act} {f₂} {n₂} xb ez ea E =
+        let g : eqb (defs.rewrites z) 0 ≡ false = ap (λ (u : defs.Rewrite). eqb (defs.rewrites u) 0) ez ∙ rewrites_some y₁.coeff y₁.bound in
         record {
           does = λ M o k w m c h j.
               let row1 = next M o k w m c h j in

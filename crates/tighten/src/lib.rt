@@ -4,6 +4,7 @@
 // the same as before. The row gets tighter for values that are not whole, and whole points are kept
 // (Savelsbergh). Long rows with many eligible terms are left alone: rewritten, a loose row of many
 // binaries falls towards a mere count of them, with very many equal solutions.
+// No test here asks how many terms a row has as written, so its limits are read with 0 for that.
 #![tactic(auto)]
 
 mod rewriting;
@@ -13,10 +14,9 @@ use definition::Activity;
 pub use rows::tighten_binary_coeffs;
 
 // How far the rewriting of a row has come; the row and the state are what the working slices hold.
-// The row's activity is kept up to date, and a row that was given back ends its rewriting.
+// The row's activity is kept up to date.
 #[derive(Clone, Copy)]
 pub struct Progress {
     pub act: Activity,
     pub changed: bool,
-    pub broke: bool,
 }

@@ -1,8 +1,9 @@
 // `tighten_binary_coeffs` of src/presolve/work.rs of microlp 0.7.0, changed: the terms of one row,
 // rewritten in their order.
-ghost use Rattle.std.specs.Prelude.{◌≡◌, false, ◌<◌, length, get_or};
+ghost use Rattle.std.specs.Prelude.{◌<◌, length, get_or};
+ghost use Rattle.definition.specs.declared.Activity.{Activity};
 ghost use Rattle.definition.specs.Tighten.{queued, rewrite_step, rewrite_loop};
-ghost use Rattle.formulas.specs.Rewriting.{form_is};
+ghost use Rattle.formulas.specs.Rewriting.{maybe_form};
 ghost use Rattle.space.specs.Store.{floats_of, numbers_of, HoldsF, HoldsN};
 ghost use Rattle.view.specs.Acts.{Ready, ReadyN, ActsN, Any};
 ghost use Rattle.view.specs.Changes.{ActsBool};
@@ -10,135 +11,123 @@ ghost use Rattle.view.specs.Known.{Written};
 ghost use Rattle.readers.specs.Reading.{row_of, Alive};
 ghost use Rattle.tighten.specs.Tightening.{Tightening};
 ghost use Rattle.tighten.specs.Over.{ended, closed};
-ghost use Rattle.tighten.specs.Carried.{Carries, carried};
+ghost use Rattle.tighten.specs.Carried.{Carries, carried, begun, progressed};
 
 use crate::Progress;
-use definition::Activity;
-use formulas::Form;
-use space::Shape;
+use coeffs::OneSided;
+use definition::{Activity, Rows};
+use rewrites::LiveTerm;
+use space::{Coeffs, Dirty, Len, Queue, Queued, Rewrote, Shape, Touched, Vars};
+use view::Lists;
 
-// = queued
+// = queued. bounds' `mark_row` has these lines too, after the coefficient step's flag; tighten uses nothing of bounds.
 fn requeue(m: &mut [usize], s: Shape, r: usize)
     requires r_lt_rows { (r < s.rows) × HoldsN s m.old }
     requires ready_n { ReadyN Any s (numbers_of s m.old) }
     ensures { ActsN Any s (numbers_of s m.old) (numbers_of s m.new) (λ M. queued r) }
 {
-    let d = space::get_dirty(m, s, r);
-    if d == 1 {
+    if space::get::<Dirty>(m, s, r) == 1 {
         return;
     }
-    space::put_dirty(m, s, r, 1);
-    let q = space::get_queued(m, s);
-    space::put_queue(m, s, q, r);
-    space::put_queued(m, s, q + 1);
+    space::put::<Dirty>(m, s, r, 1);
+    let q = space::get::<Queued>(m, s, 0);
+    space::put::<Queue>(m, s, q, r);
+    space::put::<Queued>(m, s, 0, q + 1);
 }
 
-// The end of a rewrite, with the new row in its place: the row is given back, or its activity is act.
+// The end of a rewrite, with the new row in its place: its activity is act, or the row is given back,
+// and there is no progress: its rewriting ends.
 fn rewritten(
-    starts: &[usize],
-    index: &[usize],
-    coeff: &[f64],
-    cmp: &[u8],
-    rhs: &[f64],
+    rows: Rows,
     w: &mut [f64],
     m: &mut [usize],
     s: Shape,
     r: usize,
-    old: Activity,
     act: Activity,
-) -> Progress
+) -> Option<Progress>
     requires r_lt_rows { (r < s.rows) × HoldsF s w.old × HoldsN s m.old × Alive (numbers_of s m.old) r }
-    requires ready { Ready (Written starts.now index.now coeff.now cmp.now rhs.now) s (floats_of s w.old) (numbers_of s m.old) }
-    ensures { Carries (Written starts.now index.now coeff.now cmp.now rhs.now) s r
-        (floats_of s w.old) (numbers_of s m.old) (floats_of s w.new) (numbers_of s m.new) result
+    requires ready { Ready (Written rows) s (floats_of s w.old) (numbers_of s m.old) }
+    ensures { (old : Activity) → Carries (Written rows.entry) s r
+        (floats_of s w.old) (numbers_of s m.old) (floats_of s w.new) (numbers_of s m.new) (progressed old result)
         (λ M u. ended M r (row_of u r) old act (queued r u)) }
 {
     requeue(m, s, r);
-    if folds::hold_rewrites(starts, index, coeff, cmp, rhs, w, m, s, r) {
-        return Progress {
-            act: old,
-            changed: true,
-            broke: true,
-        };
+    if folds::hold_rewrites(rows, w, m, s, r) {
+        return None;
     }
-    space::put_touched(m, s, r, 1);
-    space::count_rewrote(m, s);
-    Progress {
-        act,
-        changed: true,
-        broke: false,
-    }
+    space::put::<Touched>(m, s, r, 1);
+    space::count::<Rewrote>(m, s);
+    Some(Progress { act, changed: true })
 }
 
-// = rewrite_step, at the row's term i
+// = rewrite_step, at the row's term i, whose limits are read again: the rewrites before change them. lists, w, m, s and r are every
+// step's (space says why they stay apart); x and changed are how far the row has come, and changed goes through as the definition
+// hands it on.
 fn rewrite_step(
-    domain: &[u8],
-    starts: &[usize],
-    index: &[usize],
-    coeff: &[f64],
-    cmp: &[u8],
-    rhs: &[f64],
+    lists: Lists,
     w: &mut [f64],
     m: &mut [usize],
     s: Shape,
-    f: Form,
-    nz: f64,
     r: usize,
     i: usize,
-    x: Progress,
-) -> Progress
-    requires r_lt_rows { (r < s.rows) × HoldsF s w.old × HoldsN s m.old × Alive (numbers_of s m.old) r × (i < get_or (numbers_of s m.old).len r 0) × (x.broke ≡ false) }
-    requires ready { Ready (Tightening domain.now starts.now index.now coeff.now cmp.now rhs.now) s (floats_of s w.old) (numbers_of s m.old) }
-    ensures { Carries (Tightening domain.now starts.now index.now coeff.now cmp.now
-        rhs.now) s r (floats_of s w.old) (numbers_of s m.old) (floats_of s w.new) (numbers_of s m.new) result
-        (λ M u. rewrite_step M (form_is f) nz r i (carried r x u)) }
+    x: OneSided,
+    changed: bool,
+) -> Option<Progress>
+    requires r_lt_rows { (r < s.rows) × HoldsF s w.old × HoldsN s m.old × Alive (numbers_of s m.old) r × (i < get_or (numbers_of s m.old).len r 0) }
+    requires ready { Ready (Tightening lists) s (floats_of s w.old) (numbers_of s m.old) }
+    ensures { Carries (Tightening lists.entry) s r (floats_of s w.old) (numbers_of s m.old) (floats_of s w.new) (numbers_of s m.new) (progressed x.act result)
+        (λ M u. rewrite_step M (maybe_form x.form) x.room r i (carried r (begun x.act changed) u)) }
 {
-    let p = starts[r] + i;
-    let v = space::get_var(m, s, p);
-    let a = space::get_coeff(w, s, p);
-    let l = readers::limits(w, s, r);
-    let z = coeffs::rewrite_term(domain, w, s, f, nz, l, x.act, v, a);
-    if formulas::rewrite_count(z) == 0 {
-        return x;
-    }
-    rewrites::row_after(starts, w, m, s, f, r, i, v, a, z);
-    let act = formulas::act_after(f, a, z, x.act);
-    rewritten(starts, index, coeff, cmp, rhs, w, m, s, r, x.act, act)
+    let p = lists.rows.starts[r] + i;
+    let v = space::get::<Vars>(m, s, p);
+    let a = space::get::<Coeffs>(w, s, p);
+    let limits = readers::limits(w, s, r, 0);
+    let y = OneSided { limits, ..x };
+    let Some(z) = y.rewrite_term(lists.domain, w, s, v, a) else {
+        return Some(Progress {
+            act: x.act,
+            changed,
+        });
+    };
+    let t = LiveTerm {
+        place: i,
+        var: v,
+        coeff: a,
+    };
+    rewrites::row_after(lists.rows.starts, w, m, s, r, x.form, t, Some(z));
+    let act = formulas::act_after(x.form, a, Some(z), x.act);
+    rewritten(lists.rows, w, m, s, r, act)
 }
 
 // = rewrite_loop, over all terms: whether something changed. A row that was given back is left at once.
 pub(crate) fn rewrite_loop(
-    domain: &[u8],
-    starts: &[usize],
-    index: &[usize],
-    coeff: &[f64],
-    cmp: &[u8],
-    rhs: &[f64],
+    lists: Lists,
     w: &mut [f64],
     m: &mut [usize],
     s: Shape,
-    f: Form,
-    nz: f64,
     r: usize,
-    x: Progress,
+    x: OneSided,
+    changed: bool,
 ) -> bool
-    requires r_lt_rows { (r < s.rows) × HoldsF s w.old × HoldsN s m.old × Alive (numbers_of s m.old) r × (x.broke ≡ false) }
-    requires ready { Ready (Tightening domain.now starts.now index.now coeff.now cmp.now rhs.now) s (floats_of s w.old) (numbers_of s m.old) }
-    ensures { ActsBool (Tightening domain.now starts.now index.now coeff.now cmp.now
-        rhs.now) s (floats_of s w.old) (numbers_of s m.old) (floats_of s w.new) (numbers_of s m.new) result
-        (λ M u. closed r (rewrite_loop M (length (row_of u r).terms) (form_is f) nz r 0 (carried r x u))) }
+    requires r_lt_rows { (r < s.rows) × HoldsF s w.old × HoldsN s m.old × Alive (numbers_of s m.old) r }
+    requires ready { Ready (Tightening lists) s (floats_of s w.old) (numbers_of s m.old) }
+    ensures { ActsBool (Tightening lists.entry) s (floats_of s w.old) (numbers_of s m.old) (floats_of s w.new) (numbers_of s m.new) result
+        (λ M u. closed r (rewrite_loop M (length (row_of u r).terms) (maybe_form x.form) x.room r 0 (carried r (begun x.act changed) u))) }
 {
-    let len = space::get_len(m, s, r);
-    let mut x = x;
-    let mut i = 0;
-    while i < len {
-        x = rewrite_step(
-            domain, starts, index, coeff, cmp, rhs, w, m, s, f, nz, r, i, x,
-        );
-        if x.broke {
-            return x.changed;
-        }
-        i += 1;
+    let len = space::get::<Len>(m, s, r);
+    let mut so_far = Progress {
+        act: x.act,
+        changed,
+    };
+    for i in 0..len {
+        let y = OneSided {
+            act: so_far.act,
+            ..x
+        };
+        let Some(next) = rewrite_step(lists, w, m, s, r, i, y, so_far.changed) else {
+            return true;
+        };
+        so_far = next;
     }
-    x.changed
+    so_far.changed
 }

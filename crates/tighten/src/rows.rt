@@ -11,56 +11,49 @@ ghost use Rattle.readers.specs.Reading.{row_of, Alive};
 ghost use Rattle.tighten.specs.Tightening.{Tightening};
 ghost use Rattle.tighten.specs.Queued.{looked};
 
-use crate::Progress;
 use crate::rewriting::rewrite_loop;
+use coeffs::OneSided;
 use formulas::Form;
-use space::Shape;
+use readers::Working;
+use space::{CoeffDirty, Len, Shape};
+use view::Lists;
 
 // = tighten_form, of row r as the slices have it
 fn tighten_form(
-    domain: &[u8],
-    starts: &[usize],
-    index: &[usize],
-    coeff: &[f64],
-    cmp: &[u8],
-    rhs: &[f64],
+    lists: Lists,
     w: &mut [f64],
     m: &mut [usize],
     s: Shape,
-    f: Form,
     r: usize,
+    form: Form,
     changed: bool,
 ) -> bool
     requires r_lt_rows { (r < s.rows) × HoldsF s w.old × HoldsN s m.old × Alive (numbers_of s m.old) r }
-    requires ready { Ready (Tightening domain.now starts.now index.now coeff.now cmp.now rhs.now) s (floats_of s w.old) (numbers_of s m.old) }
-    ensures { ActsBool (Tightening domain.now starts.now index.now coeff.now cmp.now
-        rhs.now) s (floats_of s w.old) (numbers_of s m.old) (floats_of s w.new) (numbers_of s m.new) result
-        (λ M u. tighten_form M (form_is f) r (row_of u r) u changed) }
+    requires ready { Ready (Tightening lists) s (floats_of s w.old) (numbers_of s m.old) }
+    ensures { ActsBool (Tightening lists.entry) s (floats_of s w.old) (numbers_of s m.old) (floats_of s w.new) (numbers_of s m.new) result
+        (λ M u. tighten_form M (form_is form) r (row_of u r) u changed) }
 {
-    let act = readers::activity(starts, w, m, s, r, true);
-    let l = readers::limits(w, s, r);
-    let nz = formulas::vacuous_room(f, l, act);
-    let n = coeffs::eligible(domain, starts, w, m, s, f, nz, l, act, r);
-    let len = space::get_len(m, s, r);
+    let act = readers::activity::<Working>(lists.rows.starts, w, m, s, r);
+    let limits = readers::limits(w, s, r, 0);
+    let form = Some(form);
+    let room = limits.vacuous_room(form, act);
+    let x = OneSided {
+        form,
+        room,
+        limits,
+        act,
+    };
+    let n = x.eligible(lists.domain, lists.rows.starts, w, m, s, r);
+    let len = space::get::<Len>(m, s, r);
     if formulas::spared(len, n) {
         return changed;
     }
-    let x = Progress {
-        act,
-        changed,
-        broke: false,
-    };
-    rewrite_loop(domain, starts, index, coeff, cmp, rhs, w, m, s, f, nz, r, x)
+    rewrite_loop(lists, w, m, s, r, x, changed)
 }
 
 // = tighten_by, of an alive row: the step has looked at it, whatever its form is
 fn tighten_alive(
-    domain: &[u8],
-    starts: &[usize],
-    index: &[usize],
-    coeff: &[f64],
-    cmp: &[u8],
-    rhs: &[f64],
+    lists: Lists,
     w: &mut [f64],
     m: &mut [usize],
     s: Shape,
@@ -68,37 +61,21 @@ fn tighten_alive(
     changed: bool,
 ) -> bool
     requires r_lt_rows { (r < s.rows) × HoldsF s w.old × HoldsN s m.old × Alive (numbers_of s m.old) r }
-    requires ready { Ready (Tightening domain.now starts.now index.now coeff.now cmp.now rhs.now) s (floats_of s w.old) (numbers_of s m.old) }
-    ensures { ActsBool (Tightening domain.now starts.now index.now coeff.now cmp.now
-        rhs.now) s (floats_of s w.old) (numbers_of s m.old) (floats_of s w.new) (numbers_of s m.new) result
+    requires ready { Ready (Tightening lists) s (floats_of s w.old) (numbers_of s m.old) }
+    ensures { ActsBool (Tightening lists.entry) s (floats_of s w.old) (numbers_of s m.old) (floats_of s w.new) (numbers_of s m.new) result
         (λ M u. tighten_by M (form_of (row_of u r)) r (row_of u r) (looked r u) changed) }
 {
-    space::put_coeff_dirty(m, s, r, 0);
-    let l = readers::limits(w, s, r);
-    let f = formulas::form_of(l);
-    match f {
-        Form::Le => {
-            tighten_form(
-                domain, starts, index, coeff, cmp, rhs, w, m, s, f, r, changed,
-            )
-        }
-        Form::Ge => {
-            tighten_form(
-                domain, starts, index, coeff, cmp, rhs, w, m, s, f, r, changed,
-            )
-        }
-        Form::Neither => changed,
+    space::put::<CoeffDirty>(m, s, r, 0);
+    let limits = readers::limits(w, s, r, 0);
+    match limits.form() {
+        Some(form) => tighten_form(lists, w, m, s, r, form, changed),
+        None => changed,
     }
 }
 
-// = tighten_row
+// = tighten_row. What changed before comes in and goes out, as the definition hands it on.
 fn tighten_row(
-    domain: &[u8],
-    starts: &[usize],
-    index: &[usize],
-    coeff: &[f64],
-    cmp: &[u8],
-    rhs: &[f64],
+    lists: Lists,
     w: &mut [f64],
     m: &mut [usize],
     s: Shape,
@@ -106,45 +83,27 @@ fn tighten_row(
     changed: bool,
 ) -> bool
     requires r_lt_rows { (r < s.rows) × HoldsF s w.old × HoldsN s m.old }
-    requires ready { Ready (Tightening domain.now starts.now index.now coeff.now cmp.now rhs.now) s (floats_of s w.old) (numbers_of s m.old) }
-    ensures { ActsBool (Tightening domain.now starts.now index.now coeff.now cmp.now
-        rhs.now) s (floats_of s w.old) (numbers_of s m.old) (floats_of s w.new) (numbers_of s m.new) result
+    requires ready { Ready (Tightening lists) s (floats_of s w.old) (numbers_of s m.old) }
+    ensures { ActsBool (Tightening lists.entry) s (floats_of s w.old) (numbers_of s m.old) (floats_of s w.new) (numbers_of s m.new) result
         (λ M u. tighten_row M r u changed) }
 {
-    let live = space::get_alive(m, s, r);
-    if live == 1 {
-        let d = space::get_coeff_dirty(m, s, r);
-        if d == 1 {
-            return tighten_alive(domain, starts, index, coeff, cmp, rhs, w, m, s, r, changed);
-        }
-        return changed;
+    if space::get::<space::Alive>(m, s, r) == 1 && space::get::<CoeffDirty>(m, s, r) == 1 {
+        tighten_alive(lists, w, m, s, r, changed)
+    } else {
+        changed
     }
-    changed
 }
 
 // = tighten_binary_coeffs: whether something was rewritten
-pub fn tighten_binary_coeffs(
-    domain: &[u8],
-    starts: &[usize],
-    index: &[usize],
-    coeff: &[f64],
-    cmp: &[u8],
-    rhs: &[f64],
-    w: &mut [f64],
-    m: &mut [usize],
-    s: Shape,
-) -> bool
+pub fn tighten_binary_coeffs(lists: Lists, w: &mut [f64], m: &mut [usize], s: Shape) -> bool
     requires holds_f { HoldsF s w.old × HoldsN s m.old }
-    requires ready { Ready (Tightening domain.now starts.now index.now coeff.now cmp.now rhs.now) s (floats_of s w.old) (numbers_of s m.old) }
-    ensures { ActsBool (Tightening domain.now starts.now index.now coeff.now cmp.now
-        rhs.now) s (floats_of s w.old) (numbers_of s m.old) (floats_of s w.new) (numbers_of s m.new) result
+    requires ready { Ready (Tightening lists) s (floats_of s w.old) (numbers_of s m.old) }
+    ensures { ActsBool (Tightening lists.entry) s (floats_of s w.old) (numbers_of s m.old) (floats_of s w.new) (numbers_of s m.new) result
         (λ M. tighten_binary_coeffs M) }
 {
     let mut changed = false;
-    let mut r = 0;
-    while r < s.rows {
-        changed = tighten_row(domain, starts, index, coeff, cmp, rhs, w, m, s, r, changed);
-        r += 1;
+    for r in 0..s.rows {
+        changed = tighten_row(lists, w, m, s, r, changed);
     }
     changed
 }

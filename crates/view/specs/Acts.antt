@@ -3,10 +3,9 @@ use Rattle.std.specs.Prelude.{ℕ, ◌≡◌, List}
 use Rattle.definition.specs.Model.{Model}
 use Rattle.definition.specs.Work.{Work, Step}
 use Rattle.space.specs.declared.Shape.{Shape}
-use Rattle.space.specs.declared.Step as code
 use Rattle.space.specs.Store.{Floats, Numbers}
 use Rattle.view.specs.Call.{Call}
-use Rattle.view.specs.Shows.{Shows, StepShown}
+use Rattle.view.specs.Shows.{Shows, StepShown, Outcome}
 use Rattle.view.specs.Inv.{Inv}
 
 -- what a function asks of the slices: they show some state of some such model
@@ -24,7 +23,7 @@ pub record Ready (P : Model → Type 0) (s : Shape) (f : Floats) (n : Numbers) :
 pub record Acts (P : Model → Type 0) (s : Shape) (f : Floats) (n : Numbers) (f' : Floats) (n' : Numbers) (F : Model → Work → Work) : Type 0 where
   pub does : (M : Model) (o : List ℕ) (k : ℕ) (w : Work) → P M → Call M s → Shows M f n o w → Inv M k w → Shows M f' n' o (F M w)
 
-pub record Tries (P : Model → Type 0) (s : Shape) (f : Floats) (n : Numbers) (f' : Floats) (n' : Numbers) (z : code.Step) (F : Model → Work → Step) : Type 0 where
+pub record Tries (P : Model → Type 0) (s : Shape) (f : Floats) (n : Numbers) (f' : Floats) (n' : Numbers) (z : Outcome) (F : Model → Work → Step) : Type 0 where
   pub does : (M : Model) (o : List ℕ) (k : ℕ) (w : Work) → P M → Call M s → Shows M f n o w → Inv M k w → StepShown M f' n' o z (F M w)
 
 -- what a reader promises: its result is the definition's

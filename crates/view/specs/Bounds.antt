@@ -1,14 +1,14 @@
 -- Bounds and counts: what one store to a bound or a count does to the state.
-use Rattle.std.specs.Prelude.{ℕ, ◌+◌, ◌-◌, ◌%◌, ◌^◌, ◌≡◌, List, length, get_or, set, Float}
+use Rattle.std.specs.Prelude.{ℕ, ◌+◌, ◌-◌, ◌%◌, ◌^◌, ◌≡◌, List, length, get_or, set, Float, Ok, Err}
 use Rattle.std.proofs.Common.{arith, ap, sym, ◌∙◌, subst, length-set, get_or-set_same}
 use Rattle.std.specs.Float.{nan}
 use Rattle.tolerances.specs.Tol.{at}
+use Rattle.definition.specs.declared.Infeasible.{Infeasible}
 use Rattle.definition.specs.Model.{Model, tightened, fixed_one}
 use Rattle.definition.specs.Work.{Work, with_bounds, with_counts, Step, stop, next}
 use Rattle.definition.specs.Marks.{mark_var}
 use Rattle.definition.specs.Bounds.{fix, mark_tightened}
 use Rattle.space.specs.declared.Shape.{Shape}
-use Rattle.space.specs.declared.Step.TheVariants.{Stop, Next}
 use Rattle.space.specs.Store.{Floats, Numbers, put_wlo, put_whi, put_elo, put_ehi, put_fixed, put_tightened}
 use Rattle.view.specs.Shows.{Shows, StepShown, stopped, went}
 use Rattle.view.specs.Inv.{Inv}
@@ -305,8 +305,8 @@ module _ {M : Model} {f : Floats} {n : Numbers} {o : List ℕ} {w : Work} (v : �
   ehi_is e = e ∙ ap (λ (l : List Float). get_or l v nan) h.ehi
 
 -- ---- a step that goes on, or stops
-pub went_by : {M : Model} {f : Floats} {n : Numbers} {o : List ℕ} {w : Work} {z : Step} → z ≡ next w → Shows M f n o w → StepShown M f n o Next z
-went_by {M} {f} {n} {o} e h = subst (λ (y : Step). StepShown M f n o Next y) (sym e) (went h)
+pub went_by : {M : Model} {f : Floats} {n : Numbers} {o : List ℕ} {w : Work} {z : Step} → z ≡ next w → Shows M f n o w → StepShown M f n o (Ok tt) z
+went_by {M} {f} {n} {o} e h = subst (λ (y : Step). StepShown M f n o (Ok tt) y) (sym e) (went h)
 
-pub stopped_by : {M : Model} {f : Floats} {n : Numbers} {o : List ℕ} {w : Work} {z : Step} → z ≡ stop w.counts → Shows M f n o w → StepShown M f n o Stop z
-stopped_by {M} {f} {n} {o} e h = subst (λ (y : Step). StepShown M f n o Stop y) (sym e) (stopped h.counts)
+pub stopped_by : {M : Model} {f : Floats} {n : Numbers} {o : List ℕ} {w : Work} {z : Step} {x : Infeasible} → z ≡ stop w.counts → Shows M f n o w → StepShown M f n o (Err x) z
+stopped_by {M} {f} {n} {o} {x = x} e h = subst (λ (y : Step). StepShown M f n o (Err x) y) (sym e) (stopped h.counts)

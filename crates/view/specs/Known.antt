@@ -1,44 +1,42 @@
 -- What the read-only slices that a function has say of the model.
-use Rattle.std.specs.Prelude.{◌≡◌, List, ℕ, Float}
+use Rattle.std.specs.Prelude.{◌≡◌, List, ℕ}
+use Rattle.definition.specs.declared.Rows.{Rows}
 use Rattle.definition.specs.Model.{Model}
+use Rattle.view.specs.declared.Lists.{Lists}
 use Rattle.view.specs.Adjacency.{Adjacency}
 
 -- the domains and the rows of each variable
-pub record Bounding (ds js : List ℕ) (M : Model) : Type 0 where
-  pub domain : M.domain ≡ ds
-  pub adj : Adjacency M js
+pub record Bounding (x : Lists) (M : Model) : Type 0 where
+  pub domain : M.domain ≡ x.domain.now
+  pub adj : Adjacency M x.adj.now
 
 -- where the rows' spans are
 pub record Spans (ss : List ℕ) (M : Model) : Type 0 where
   pub starts : M.starts ≡ ss
 
 -- the rows as written
-pub record Written (ss is : List ℕ) (cs : List Float) (os : List ℕ) (bs : List Float) (M : Model) : Type 0 where
-  pub starts : M.starts ≡ ss
-  pub index : M.index ≡ is
-  pub coeff : M.coeff ≡ cs
-  pub cmp : M.cmp ≡ os
-  pub rhs : M.rhs ≡ bs
+pub record Written (x : Rows) (M : Model) : Type 0 where
+  pub starts : M.starts ≡ x.starts.now
+  pub index : M.index ≡ x.index.now
+  pub coeff : M.coeff ≡ x.coeff.now
+  pub cmp : M.cmp ≡ x.cmp.now
+  pub rhs : M.rhs ≡ x.rhs.now
 
 -- all of them
-pub record Known (ds ss is : List ℕ) (cs : List Float) (os : List ℕ) (bs : List Float) (js : List ℕ) (M : Model) : Type 0 where
-  pub domain : M.domain ≡ ds
-  pub starts : M.starts ≡ ss
-  pub index : M.index ≡ is
-  pub coeff : M.coeff ≡ cs
-  pub cmp : M.cmp ≡ os
-  pub rhs : M.rhs ≡ bs
-  pub adj : Adjacency M js
+pub record Known (x : Lists) (M : Model) : Type 0 where
+  pub written : Written x.rows M
+  pub domain : M.domain ≡ x.domain.now
+  pub adj : Adjacency M x.adj.now
 
-module _ {domain starts index : List ℕ} {coeff : List Float} {cmp : List ℕ} {rhs : List Float} {adj : List ℕ} (M : Model) (k : Known domain starts index coeff cmp rhs adj M) where
-  pub known_spans : Spans starts M
-  known_spans = record { starts = k.starts }
+module _ {x : Lists} (M : Model) (k : Known x M) where
+  pub known_spans : Spans x.rows.starts.now M
+  known_spans = record { starts = k.written.starts }
 
-  pub known_written : Written starts index coeff cmp rhs M
-  known_written = record { starts = k.starts; index = k.index; coeff = k.coeff; cmp = k.cmp; rhs = k.rhs }
+  pub known_written : Written x.rows M
+  known_written = k.written
 
-pub bounding_adj : {domain adj : List ℕ} (M : Model) → Bounding domain adj M → Adjacency M adj
+pub bounding_adj : {x : Lists} (M : Model) → Bounding x M → Adjacency M x.adj.now
 bounding_adj M k = k.adj
 
-pub written_spans : {starts index : List ℕ} {coeff : List Float} {cmp : List ℕ} {rhs : List Float} (M : Model) → Written starts index coeff cmp rhs M → Spans starts M
+pub written_spans : {x : Rows} (M : Model) → Written x M → Spans x.starts.now M
 written_spans M k = record { starts = k.starts }

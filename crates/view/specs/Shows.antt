@@ -1,13 +1,12 @@
 -- What the working slices, as records of blocks f and n, show of the definition's state w. A row that is not alive shows nothing but that.
-use Rattle.std.specs.Prelude.{ℕ, suc, ◌+◌, ◌-◌, ◌%◌, ◌^◌, ◌≤◌, ◌<◌, ◌≡◌, Bool, true, List, map, eqb, length, get_or, take, Float}
+use Rattle.std.specs.Prelude.{ℕ, suc, ◌+◌, ◌-◌, ◌%◌, ◌^◌, ◌≤◌, ◌<◌, ◌≡◌, Bool, true, List, map, eqb, length, get_or, take, Float, Result, Ok, Err, ⊤}
 use Rattle.std.proofs.Math.Option.{Option, none, some}
 use Rattle.tolerances.specs.Tol.{Term, at}
 use Rattle.definition.specs.declared.Counts.{Counts}
+use Rattle.definition.specs.declared.Infeasible.{Infeasible}
 use Rattle.definition.specs.Model.{Model, from, upto, nnz, Row, Binding}
 use Rattle.definition.specs.Work.{Work, Step, stop, next, no_row, no_term}
 use Rattle.space.specs.Store.{Floats, Numbers}
-use Rattle.space.specs.declared.Step as code
-use Rattle.space.specs.declared.Step.TheVariants.{Stop, Next}
 
 -- a flag is 1 or not
 unfoldable pub is_one : ℕ → Bool
@@ -113,7 +112,11 @@ pub record Shows (M : Model) (f : Floats) (n : Numbers) (o : List ℕ) (w : Work
   pub alive : (r : ℕ) → r < length M.rhs → is_one (get_or n.alive r 0) ≡ (get_or w.rows r no_row).alive
   pub rows : (r : ℕ) → r < length M.rhs → (get_or w.rows r no_row).alive ≡ true → RowShown M (parts_of f n) r (get_or w.rows r no_row)
 
--- ---- a step that may stop: then only the counts are shown
-pub data StepShown (M : Model) (f : Floats) (n : Numbers) (o : List ℕ) : code.Step → Step → Type 0 where
-  stopped : {k : Counts} → Counted (tally_of n) k → StepShown M f n o Stop (stop k)
-  went : {w : Work} → Shows M f n o w → StepShown M f n o Next (next w)
+-- ---- what the code answers of a step: nothing, or that no point is left
+abbrev pub Outcome : Type 0
+Outcome = Result ⊤ Infeasible
+
+-- a step that may stop: then only the counts are shown
+pub data StepShown (M : Model) (f : Floats) (n : Numbers) (o : List ℕ) : Outcome → Step → Type 0 where
+  stopped : {e : Infeasible} {k : Counts} → Counted (tally_of n) k → StepShown M f n o (Err e) (stop k)
+  went : {w : Work} → Shows M f n o w → StepShown M f n o (Ok tt) (next w)

@@ -1,17 +1,21 @@
 -- Steps that may stop, one after the other: `?` of the Rust. And contracts under more than they ask for.
-use Rattle.std.specs.Prelude.{ℕ, ◌≡◌, refl, List}
-use Rattle.std.proofs.Common.{sym, subst}
+use Rattle.std.specs.Prelude.{ℕ, ◌≡◌, refl, List, Ok, Err, IsErr}
+use Rattle.std.proofs.Common.{arith, sym, subst}
 use Rattle.definition.specs.declared.Counts.{Counts}
+use Rattle.definition.specs.declared.Infeasible.{Infeasible}
 use Rattle.definition.specs.Model.{Model}
 use Rattle.definition.specs.Work.{Work, Step, stop, next, ◌>>=◌}
 use Rattle.space.specs.declared.Shape.{Shape}
-use Rattle.space.specs.declared.Step as code
-use Rattle.space.specs.declared.Step.TheVariants.{Stop, Next}
 use Rattle.space.specs.Store.{Floats, Numbers}
 use Rattle.view.specs.Call.{Call}
-use Rattle.view.specs.Shows.{Shows, StepShown, stopped, went}
+use Rattle.view.specs.Shows.{Shows, Outcome, StepShown, stopped, went}
 use Rattle.view.specs.Inv.{Inv}
 use Rattle.view.specs.Acts.{Ready, Acts, Tries}
+
+-- what `?` hands on is that no point is left
+pub stop_is : {e : Infeasible} (z : Outcome) → IsErr z → z ≡ Err e
+stop_is (Ok x) h = absurd (let z : ◌≡◌ {A = ℕ} 0 1 = (let y = h in cc) in omega arith)
+stop_is (Err e) h = refl
 
 -- the invariant, of a step that goes on
 pub data InvStep (M : Model) (k : ℕ) : Step → Type 0 where
@@ -27,14 +31,14 @@ pub record Went (M : Model) (f : Floats) (n : Numbers) (o : List ℕ) (z : Step)
   pub is : z ≡ next work
   pub shows : Shows M f n o work
 
-pub went_is : {M : Model} {f : Floats} {n : Numbers} {o : List ℕ} {z : Step} → StepShown M f n o Next z → Went M f n o z
+pub went_is : {M : Model} {f : Floats} {n : Numbers} {o : List ℕ} {z : Step} → StepShown M f n o (Ok tt) z → Went M f n o z
 went_is (went {w} h) = record { work = w; is = refl; shows = h }
 
 inv_next : {M : Model} {k : ℕ} {w : Work} → InvStep M k (next w) → Inv M k w
 inv_next (goes i) = i
 
 module _ {P : Model → Type 0} {s : Shape} {f f₁ : Floats} {n n₁ : Numbers} {F : Model → Work → Step} where
-  pub ready_went : Ready P s f n → Tries P s f n f₁ n₁ Next F → KeepsStep P s F → Ready P s f₁ n₁
+  pub ready_went : Ready P s f n → Tries P s f n f₁ n₁ (Ok tt) F → KeepsStep P s F → Ready P s f₁ n₁
   ready_went r t k =
       let g = went_is (t.does r.model r.other r.left r.work r.known r.call r.shows r.inv) in
       record {
@@ -49,7 +53,7 @@ module _ {P : Model → Type 0} {s : Shape} {f f₁ : Floats} {n n₁ : Numbers}
       }
 
   -- F goes on, and then G
-  pub tries_then : {f₂ : Floats} {n₂ : Numbers} {z : code.Step} {G : Model → Work → Step} → Tries P s f n f₁ n₁ Next F → KeepsStep P s F → Tries P s f₁ n₁ f₂ n₂ z G
+  pub tries_then : {f₂ : Floats} {n₂ : Numbers} {z : Outcome} {G : Model → Work → Step} → Tries P s f n f₁ n₁ (Ok tt) F → KeepsStep P s F → Tries P s f₁ n₁ f₂ n₂ z G
       → Tries P s f n f₂ n₂ z (λ M w. F M w >>= λ w1. G M w1)
   tries_then {f₂} {n₂} {z} {G} t k u =
       record {
@@ -60,10 +64,10 @@ module _ {P : Model → Type 0} {s : Shape} {f f₁ : Floats} {n n₁ : Numbers}
       }
 
   -- F stops
-  pub tries_stop : (G : Model → Work → Step) → Tries P s f n f₁ n₁ Stop F → Tries P s f n f₁ n₁ Stop (λ M w. F M w >>= λ w1. G M w1)
+  pub tries_stop : {e : Infeasible} (G : Model → Work → Step) → Tries P s f n f₁ n₁ (Err e) F → Tries P s f n f₁ n₁ (Err e) (λ M w. F M w >>= λ w1. G M w1)
   tries_stop G t = record { does = λ M o j w p c h i. halted G M o (t.does M o j w p c h i) }
     where
-      halted : (G : Model → Work → Step) (M : Model) (o : List ℕ) {y : Step} → StepShown M f₁ n₁ o Stop y → StepShown M f₁ n₁ o Stop (y >>= λ w1. G M w1)
+      halted : {e : Infeasible} (G : Model → Work → Step) (M : Model) (o : List ℕ) {y : Step} → StepShown M f₁ n₁ o (Err e) y → StepShown M f₁ n₁ o (Err e) (y >>= λ w1. G M w1)
       halted G M o (stopped k) = stopped k
 
 pub keeps_then : {P : Model → Type 0} {s : Shape} {F G : Model → Work → Step} → KeepsStep P s F → KeepsStep P s G → KeepsStep P s (λ M w. F M w >>= λ w1. G M w1)
@@ -78,7 +82,7 @@ module _ {P Q : Model → Type 0} {s : Shape} (q : (M : Model) → Q M → P M) 
   pub acts_under : {f f' : Floats} {n n' : Numbers} {F : Model → Work → Work} → Acts P s f n f' n' F → Acts Q s f n f' n' F
   acts_under a = record { does = λ M o k w p c h i. a.does M o k w (q M p) c h i }
 
-  pub tries_under : {f f' : Floats} {n n' : Numbers} {z : code.Step} {F : Model → Work → Step} → Tries P s f n f' n' z F → Tries Q s f n f' n' z F
+  pub tries_under : {f f' : Floats} {n n' : Numbers} {z : Outcome} {F : Model → Work → Step} → Tries P s f n f' n' z F → Tries Q s f n f' n' z F
   tries_under a = record { does = λ M o k w p c h i. a.does M o k w (q M p) c h i }
 
   pub ready_under : {f : Floats} {n : Numbers} → Ready Q s f n → Ready P s f n

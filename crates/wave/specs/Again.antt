@@ -1,12 +1,12 @@
 -- Waves while the queue is not empty: what is left after p waves gives the whole.
-use Rattle.std.specs.Prelude.{ℕ, zero, suc, ◌+◌, ◌-◌, ◌≤◌, ◌<◌, ◌≡◌, refl, true, false, List, [], ◌∷◌, length, get_or}
+use Rattle.std.specs.Prelude.{ℕ, zero, suc, ◌+◌, ◌-◌, ◌≤◌, ◌<◌, ◌≡◌, refl, true, false, List, [], ◌∷◌, length, get_or, Ok, Err}
 use Rattle.std.proofs.Common.{arith, ap, sym, ◌∙◌, subst}
+use Rattle.definition.specs.declared.Infeasible.{Infeasible}
 use Rattle.definition.specs.Params.{params, max_waves}
 use Rattle.definition.specs.Model.{Model}
 use Rattle.definition.specs.Work.{Work, Step, next, ◌>>=◌}
 use Rattle.definition.specs.Wave.{idle, wave, waves}
 use Rattle.space.specs.declared.Shape.{Shape}
-use Rattle.space.specs.declared.Step.TheVariants.{Stop, Next}
 use Rattle.space.specs.Store.{Floats, Numbers}
 use Rattle.view.specs.Call.{Call}
 use Rattle.view.specs.Shows.{Shows, StepShown}
@@ -102,7 +102,7 @@ module _ {P : Model → Type 0} {s : Shape} {f₀ f : Floats} {n₀ n : Numbers}
     waving_small ec l = omega (arith, ec, l, here.on.shows.counts.passes, here.on.holds.passes)
 
   module _ (T : Waving P s f₀ n₀ f n cap p) where
-    pub waving_idle : {q : ℕ} → q ≡ get_or n.queued 0 0 → q ≡ 0 → Waves P s f₀ n₀ f n Next (λ M w. waves M (left_of M w) w)
+    pub waving_idle : {q : ℕ} → q ≡ get_or n.queued 0 0 → q ≡ 0 → Waves P s f₀ n₀ f n (Ok tt) (λ M w. waves M (left_of M w) w)
     waving_idle eq z =
         record {
           does = λ M o k w x c h i.
@@ -112,7 +112,7 @@ module _ {P : Model → Type 0} {s : Shape} {f₀ f : Floats} {n₀ n : Numbers}
               record { other = N.other; step = went_by (sym N.on.holds.rest ∙ waves_idle M (cap - p) u l) N.on.shows };
         }
 
-    pub waving_end : cap ≤ p → Waves P s f₀ n₀ f n Next (λ M w. waves M (left_of M w) w)
+    pub waving_end : cap ≤ p → Waves P s f₀ n₀ f n (Ok tt) (λ M w. waves M (left_of M w) w)
     waving_end l =
         record {
           does = λ M o k w x c h i.
@@ -122,8 +122,8 @@ module _ {P : Model → Type 0} {s : Shape} {f₀ f : Floats} {n₀ n : Numbers}
         }
 
     module _ {f' : Floats} {n' : Numbers} {q : ℕ} (l : p < cap) (eq : q ≡ get_or n.queued 0 0) (ne : q ≡ 0 → ⊥) where
-      pub waving_stop : Waves P s f n f' n' Stop wave → Waves P s f₀ n₀ f' n' Stop (λ M w. waves M (left_of M w) w)
-      waving_stop t =
+      pub waving_stop : {e₀ : Infeasible} → Waves P s f n f' n' (Err e₀) wave → Waves P s f₀ n₀ f' n' (Err e₀) (λ M w. waves M (left_of M w) w)
+      waving_stop {e₀ = e₀} t =
           record {
             does = λ M o k w x c h i.
                 let N = T.each M o k w x c h i in
@@ -134,11 +134,11 @@ module _ {P : Model → Type 0} {s : Shape} {f₀ f : Floats} {n₀ n : Numbers}
                 sym N.on.holds.rest ∙ ap (λ (j : ℕ). waves M j u) z ∙ waves_on M (cap - (p + 1)) u (λ y. ne (eq ∙ N.on.shows.queued ∙ y)) in
                 record {
                   other = a.other;
-                  step = subst (λ (y : Step). StepShown M f' n' a.other Stop y) (sym e) (stopped_then (λ w1. waves M (cap - (p + 1)) w1) a.step);
+                  step = subst (λ (y : Step). StepShown M f' n' a.other (Err e₀) y) (sym e) (stopped_then (λ w1. waves M (cap - (p + 1)) w1) a.step);
                 };
           }
 
-      pub waving_turn : Waves P s f n f' n' Next wave → Waving P s f₀ n₀ f' n' cap (p + 1)
+      pub waving_turn : Waves P s f n f' n' (Ok tt) wave → Waving P s f₀ n₀ f' n' cap (p + 1)
       waving_turn t =
           record {
             each = λ M o k w x c h i.

@@ -1,15 +1,13 @@
 -- A wave begins: the queued rows are copied to the wave's block, the queue is empty, and the wave is counted.
-use Rattle.std.specs.Prelude.{ℕ, suc, ◌+◌, ◌-◌, ◌≤◌, ◌<◌, ◌≡◌, refl, List, [], ◌∷◌, ◌++◌, length, get_or, set, take}
+use Rattle.std.specs.Prelude.{ℕ, suc, ◌+◌, ◌≤◌, ◌<◌, ◌≡◌, refl, List, [], ◌∷◌, ◌++◌, length, get_or, set, take, Ok}
 use Rattle.std.proofs.Common.{arith, add-one, ap, sym, ◌∙◌, subst, take-suc, take-suc-set, get_or-set_same}
 use Rattle.definition.specs.Model.{Model, passed}
 use Rattle.definition.specs.Work.{Work, with_marks, with_counts, Step, next}
 use Rattle.definition.specs.Wave.{wave_rows, wave}
 use Rattle.space.specs.declared.Shape.{Shape}
-use Rattle.space.specs.declared.Step as code
-use Rattle.space.specs.declared.Step.TheVariants.{Next}
 use Rattle.space.specs.Store.{Floats, Numbers, put_wave, put_queued, put_passes}
 use Rattle.view.specs.Call.{Call}
-use Rattle.view.specs.Shows.{Shows, StepShown}
+use Rattle.view.specs.Shows.{Shows, StepShown, Outcome}
 use Rattle.view.specs.Inv.{Inv, Below}
 use Rattle.view.specs.Lists.{marked_le}
 use Rattle.view.specs.Acts.{Ready}
@@ -71,15 +69,15 @@ pub copied_end : {n₀ n : Numbers} {cnt i : ℕ} → Copied n₀ n i → i ≤ 
 copied_end {n₀} {n} C p q = subst (Copied n₀ n) (omega (arith, p, q)) C
 
 -- ---- primal_wave: the block of the wave's rows is another after it
-pub record Afresh (M : Model) (f : Floats) (n : Numbers) (z : code.Step) (y : Step) : Type 0 where
+pub record Afresh (M : Model) (f : Floats) (n : Numbers) (z : Outcome) (y : Step) : Type 0 where
   pub other : List ℕ
   pub step : StepShown M f n other z y
 
-pub record Waves (P : Model → Type 0) (s : Shape) (f : Floats) (n : Numbers) (f' : Floats) (n' : Numbers) (z : code.Step) (F : Model → Work → Step) : Type 0 where
+pub record Waves (P : Model → Type 0) (s : Shape) (f : Floats) (n : Numbers) (f' : Floats) (n' : Numbers) (z : Outcome) (F : Model → Work → Step) : Type 0 where
   pub does : (M : Model) (o : List ℕ) (k : ℕ) (w : Work) → P M → Call M s → Shows M f n o w → Inv M k w → Afresh M f' n' z (F M w)
 
-pub waves_is : {P : Model → Type 0} {s : Shape} {f f' : Floats} {n n' : Numbers} {z y : code.Step} {F : Model → Work → Step} → Waves P s f n f' n' z F → z ≡ y → Waves P s f n f' n' y F
-waves_is {P} {s} {f} {f'} {n} {n'} {F = F} t e = subst (λ (x : code.Step). Waves P s f n f' n' x F) e t
+pub waves_is : {P : Model → Type 0} {s : Shape} {f f' : Floats} {n n' : Numbers} {z y : Outcome} {F : Model → Work → Step} → Waves P s f n f' n' z F → z ≡ y → Waves P s f n f' n' y F
+waves_is {P} {s} {f} {f'} {n} {n'} {F = F} t e = subst (λ (x : Outcome). Waves P s f n f' n' x F) e t
 
 abbrev begun : Work → Work
 begun w = with_counts (passed w.counts) (with_marks w.dirty w.coeff_dirty [] w)
@@ -176,7 +174,7 @@ module _ {P : Model → Type 0} {s : Shape} {f : Floats} {n n₁ n₂ n₃ : Num
         fits = queued_fits R ec;
       }
 
-  pub wave_tries : {f' : Floats} {n' : Numbers} {z : code.Step} → TriesWave P s f n₃ f' n' z cnt → Waves P s f n f' n' z wave
+  pub wave_tries : {f' : Floats} {n' : Numbers} {z : Outcome} → TriesWave P s f n₃ f' n' z cnt → Waves P s f n f' n' z wave
   wave_tries {f'} {n'} {z} t =
       record {
         does = λ M o k w q c h i.
@@ -189,7 +187,7 @@ module _ {P : Model → Type 0} {s : Shape} {f : Floats} {n n₁ n₂ n₃ : Num
       }
 
 -- ---- the next wave's state
-pub ready_afresh : {P : Model → Type 0} {s : Shape} {f f' : Floats} {n n' : Numbers} {F : Model → Work → Step} → Ready P s f n → Waves P s f n f' n' Next F → KeepsStep P s F → Ready P s f' n'
+pub ready_afresh : {P : Model → Type 0} {s : Shape} {f f' : Floats} {n n' : Numbers} {F : Model → Work → Step} → Ready P s f n → Waves P s f n f' n' (Ok tt) F → KeepsStep P s F → Ready P s f' n'
 ready_afresh r t k =
     let a = t.does r.model r.other r.left r.work r.known r.call r.shows r.inv in
     let g = went_is a.step in

@@ -1,16 +1,15 @@
 -- One row of a wave: its mark is cleared, so that one row less is still to come; then it is folded and handled.
-use Rattle.std.specs.Prelude.{ℕ, suc, ◌-◌, ◌<◌, ◌≡◌, refl, Bool, true, false, List, length, get_or, set, Float}
+use Rattle.std.specs.Prelude.{ℕ, suc, ◌-◌, ◌<◌, ◌≡◌, refl, Bool, true, false, List, length, get_or, set, Ok}
 use Rattle.std.proofs.Common.{arith, ap, sym, ◌∙◌, subst, length-set}
 use Rattle.definition.specs.Model.{Model, Row}
 use Rattle.definition.specs.Work.{Work, with_marks, with_row, Step, next}
 use Rattle.definition.specs.Folds.{fold_fixed}
 use Rattle.definition.specs.Wave.{by_count, wave_row}
 use Rattle.space.specs.declared.Shape.{Shape}
-use Rattle.space.specs.declared.Step as code
-use Rattle.space.specs.declared.Step.TheVariants.{Next}
 use Rattle.space.specs.Store.{Floats, Numbers, put_dirty}
+use Rattle.view.specs.declared.Lists.{Lists}
 use Rattle.view.specs.Call.{Call}
-use Rattle.view.specs.Shows.{is_one, Shows, StepShown}
+use Rattle.view.specs.Shows.{is_one, Shows, StepShown, Outcome}
 use Rattle.view.specs.Inv.{Inv}
 use Rattle.view.specs.Lists.{yes, no, either, one_not, zero_is, map_set, marked_clear}
 use Rattle.view.specs.Acts.{Ready, Acts, Tries, Any, ready_after}
@@ -30,11 +29,11 @@ pub record ReadyRow (P : Model → Type 0) (s : Shape) (f : Floats) (n : Numbers
   pub ready : Ready P s f n
   pub left : 0 < ready.left
 
-pub record TriesRow (P : Model → Type 0) (s : Shape) (f : Floats) (n : Numbers) (f' : Floats) (n' : Numbers) (z : code.Step) (F : Model → Work → Step) : Type 0 where
+pub record TriesRow (P : Model → Type 0) (s : Shape) (f : Floats) (n : Numbers) (f' : Floats) (n' : Numbers) (z : Outcome) (F : Model → Work → Step) : Type 0 where
   pub does : (M : Model) (o : List ℕ) (k : ℕ) (w : Work) → P M → Call M s → Shows M f n o w → Inv M (suc k) w → StepShown M f' n' o z (F M w)
 
-pub row_is : {P : Model → Type 0} {s : Shape} {f f' : Floats} {n n' : Numbers} {z y : code.Step} {F : Model → Work → Step} → TriesRow P s f n f' n' z F → z ≡ y → TriesRow P s f n f' n' y F
-row_is {P} {s} {f} {f'} {n} {n'} {F = F} t e = subst (λ (x : code.Step). TriesRow P s f n f' n' x F) e t
+pub row_is : {P : Model → Type 0} {s : Shape} {f f' : Floats} {n n' : Numbers} {z y : Outcome} {F : Model → Work → Step} → TriesRow P s f n f' n' z F → z ≡ y → TriesRow P s f n f' n' y F
+row_is {P} {s} {f} {f'} {n} {n'} {F = F} t e = subst (λ (x : Outcome). TriesRow P s f n f' n' x F) e t
 
 -- ---- its mark is cleared
 abbrev cleared : ℕ → Work → Work
@@ -109,7 +108,7 @@ module _ {P : Model → Type 0} {s : Shape} {f : Floats} {n n₁ : Numbers} (r :
         inv = inv_clear r q.work (subst (λ (j : ℕ). Inv q.model j q.work) (omega (arith, R.left)) q.inv);
       }
 
-  pub row_dead : {v : ℕ} → v ≡ get_or n₁.alive r 0 → (v ≡ 1 → ⊥) → TriesRow P s f n f n₁ Next (λ M. wave_row M r)
+  pub row_dead : {v : ℕ} → v ≡ get_or n₁.alive r 0 → (v ≡ 1 → ⊥) → TriesRow P s f n f n₁ (Ok tt) (λ M. wave_row M r)
   row_dead ev ne =
       record {
         does = λ M o k w q c h i.
@@ -117,18 +116,18 @@ module _ {P : Model → Type 0} {s : Shape} {f : Floats} {n n₁ : Numbers} (r :
             went_by (row_dead_is M r w (sym (g.alive r (omega (arith, p, c.rows))) ∙ one_not (get_or n₁.alive r 0) (λ z. ne (ev ∙ z)))) g;
       }
 
-folds_acts : {ds ss is : List ℕ} {cs : List Float} {os : List ℕ} {bs : List Float} {js : List ℕ} {s : Shape} {f f' : Floats} {n n' : Numbers} (r : ℕ)
-    → r < s.rows → Alive n r → Turns (Written ss is cs os bs) s r f n f' n' (λ M. fold_fixed M r)
-    → Acts (Known ds ss is cs os bs js) s f n f' n' (λ M w. with_row r (fold_fixed M r w (row_of w r)) w)
+folds_acts : {lists : Lists} {s : Shape} {f f' : Floats} {n n' : Numbers} (r : ℕ)
+    → r < s.rows → Alive n r → Turns (Written lists.rows) s r f n f' n' (λ M. fold_fixed M r)
+    → Acts (Known lists) s f n f' n' (λ M w. with_row r (fold_fixed M r w (row_of w r)) w)
 folds_acts r p a T = acts_under known_written (turns_acts p a T)
 
-module _ {ds ss is : List ℕ} {cs : List Float} {os : List ℕ} {bs : List Float} {js : List ℕ} {s : Shape} {f : Floats} {n n₁ : Numbers} {f₂ : Floats}
+module _ {lists : Lists} {s : Shape} {f : Floats} {n n₁ : Numbers} {f₂ : Floats}
     {n₂ : Numbers} (r : ℕ) (p : r < s.rows) (e₁ : n₁ ≡ put_dirty r 0 n) {v : ℕ} (ev : v ≡ get_or n₁.alive r 0)
-    (one : v ≡ 1) (T : Turns (Written ss is cs os bs) s r f n₁ f₂ n₂ (λ M. fold_fixed M r)) where
-  pub ready_folded : ReadyRow (Known ds ss is cs os bs js) s f n → Ready (Known ds ss is cs os bs js) s f₂ n₂
+    (one : v ≡ 1) (T : Turns (Written lists.rows) s r f n₁ f₂ n₂ (λ M. fold_fixed M r)) where
+  pub ready_folded : ReadyRow (Known lists) s f n → Ready (Known lists) s f₂ n₂
   ready_folded R = ready_after (ready_clear r p e₁ R) (folds_acts r p (sym ev ∙ one) T) (fold_fixed_keeps r p)
 
-  pub alive_folded : ReadyRow (Known ds ss is cs os bs js) s f n → Alive n₂ r
+  pub alive_folded : ReadyRow (Known lists) s f n → Alive n₂ r
   alive_folded R =
       let q = ready_clear r p e₁ R in
       let w = q.work in
@@ -138,8 +137,8 @@ module _ {ds ss is : List ℕ} {cs : List Float} {os : List ℕ} {bs : List Floa
       alive_of q.call h p (ap (λ (x : Row). x.alive) (row_now r y w l) ∙ (fold_fixed_kept r w q.call (omega (arith, p, q.call.rows)) (row_of w r)).alive
       (row_alive q.call q.shows p (sym ev ∙ one)))
 
-  pub row_live : {f₃ : Floats} {n₃ : Numbers} {z : code.Step} → Tries (Known ds ss is cs os bs js) s f₂ n₂ f₃ n₃ z
-      (λ M w. by_count M r (row_of w r) (row_of w r).terms w) → TriesRow (Known ds ss is cs os bs js) s f n f₃ n₃ z (λ M. wave_row M r)
+  pub row_live : {f₃ : Floats} {n₃ : Numbers} {z : Outcome} → Tries (Known lists) s f₂ n₂ f₃ n₃ z
+      (λ M w. by_count M r (row_of w r) (row_of w r).terms w) → TriesRow (Known lists) s f n f₃ n₃ z (λ M. wave_row M r)
   row_live {f₃} {n₃} {z} t =
       record {
         does = λ M o k w q c h i.

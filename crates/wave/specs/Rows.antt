@@ -1,15 +1,14 @@
 -- The rows of a wave, one after the other: what is left from the row looked at on gives the whole.
-use Rattle.std.specs.Prelude.{ℕ, suc, ◌+◌, ◌-◌, ◌≤◌, ◌<◌, ◌≡◌, refl, List, [], ◌∷◌, length, get_or, take, drop}
+use Rattle.std.specs.Prelude.{ℕ, suc, ◌+◌, ◌-◌, ◌≤◌, ◌<◌, ◌≡◌, refl, List, [], ◌∷◌, length, get_or, take, drop, Ok, Err}
 use Rattle.std.proofs.Common.{arith, add-one, ap, sym, ◌∙◌, subst, drop_of_length-le, drop-cons, get_or-take, length-take-le}
+use Rattle.definition.specs.declared.Infeasible.{Infeasible}
 use Rattle.definition.specs.Model.{Model}
 use Rattle.definition.specs.Work.{Work, Step, next, ◌>>=◌}
 use Rattle.definition.specs.Wave.{wave_row, wave_rows}
 use Rattle.space.specs.declared.Shape.{Shape}
-use Rattle.space.specs.declared.Step as code
-use Rattle.space.specs.declared.Step.TheVariants.{Stop, Next}
 use Rattle.space.specs.Store.{Floats, Numbers}
 use Rattle.view.specs.Call.{Call}
-use Rattle.view.specs.Shows.{Shows, StepShown}
+use Rattle.view.specs.Shows.{Shows, StepShown, Outcome}
 use Rattle.view.specs.Inv.{Inv, Below}
 use Rattle.view.specs.Acts.{Ready}
 use Rattle.view.specs.Steps.{InvStep, goes, went_is}
@@ -26,8 +25,11 @@ pub record ReadyWave (P : Model → Type 0) (s : Shape) (f : Floats) (n : Number
   pub below : Below s.rows (take cnt n.wave)
   pub fits : cnt ≤ s.rows
 
-pub record TriesWave (P : Model → Type 0) (s : Shape) (f : Floats) (n : Numbers) (f' : Floats) (n' : Numbers) (z : code.Step) (cnt : ℕ) : Type 0 where
+pub record TriesWave (P : Model → Type 0) (s : Shape) (f : Floats) (n : Numbers) (f' : Floats) (n' : Numbers) (z : Outcome) (cnt : ℕ) : Type 0 where
   pub does : (M : Model) (o : List ℕ) (k : ℕ) (w : Work) → P M → Call M s → Shows M f n o w → Inv M (k + cnt) w → StepShown M f' n' o z (wave_rows M (take cnt o) w)
+
+pub wave_is : {P : Model → Type 0} {s : Shape} {f f' : Floats} {n n' : Numbers} {z y : Outcome} {cnt : ℕ} → TriesWave P s f n f' n' z cnt → z ≡ y → TriesWave P s f n f' n' y cnt
+wave_is {P} {s} {f} {f'} {n} {n'} {cnt = cnt} t e = subst (λ (x : Outcome). TriesWave P s f n f' n' x cnt) e t
 
 rows_cons : (M : Model) (r : ℕ) (rs : List ℕ) (w : Work) → wave_rows M (r ∷ rs) w ≡ (wave_row M r w >>= λ w1. wave_rows M rs w1)
 unfolding wave_rows
@@ -104,7 +106,7 @@ left_is {M} {o = o} {u} {cnt} {i} {r} il lt er g =
 
 module _ {P : Model → Type 0} {s : Shape} {f₀ f : Floats} {n₀ n : Numbers} {cnt i : ℕ} (l : length n₀.wave ≡ s.rows) (lc : cnt ≤ s.rows) (T : Passing P s f₀ n₀ f n cnt i) where
   module _ {f' : Floats} {n' : Numbers} {r : ℕ} (p : r < s.rows) (il : i < cnt) (er : r ≡ get_or n.wave i 0) where
-    pub passing_turn : TriesRow P s f n f' n' Next (λ M. wave_row M r) → Passing P s f₀ n₀ f' n' cnt (i + 1)
+    pub passing_turn : TriesRow P s f n f' n' (Ok tt) (λ M. wave_row M r) → Passing P s f₀ n₀ f' n' cnt (i + 1)
     passing_turn t =
         record {
           each = λ M o k w q c h j.
@@ -123,18 +125,18 @@ module _ {P : Model → Type 0} {s : Shape} {f₀ f : Floats} {n₀ n : Numbers}
               };
         }
 
-    pub passing_stop : TriesRow P s f n f' n' Stop (λ M. wave_row M r) → TriesWave P s f₀ n₀ f' n' Stop cnt
-    passing_stop t =
+    pub passing_stop : {e₀ : Infeasible} → TriesRow P s f n f' n' (Err e₀) (λ M. wave_row M r) → TriesWave P s f₀ n₀ f' n' (Err e₀) cnt
+    passing_stop {e₀ = e₀} t =
         record {
           does = λ M o k w q c h j.
               let N = T.each M o k w q c h j in
               let u = N.work in
               let b : Inv M (suc (k + (cnt - (i + 1)))) u = subst (λ (x : ℕ). Inv M x u) (omega (arith, il)) N.inv in
-              subst (λ (z : Step). StepShown M f' n' o Stop z) (sym (left_is il (long_is l lc h) er N.shows) ∙ N.holds)
+              subst (λ (z : Step). StepShown M f' n' o (Err e₀) z) (sym (left_is il (long_is l lc h) er N.shows) ∙ N.holds)
               (stopped_then (λ w1. wave_rows M (drop (suc i) (take cnt o)) w1) (t.does M o (k + (cnt - (i + 1))) u q c N.shows b));
         }
 
-  pub passing_end : cnt ≤ i → TriesWave P s f₀ n₀ f n Next cnt
+  pub passing_end : cnt ≤ i → TriesWave P s f₀ n₀ f n (Ok tt) cnt
   passing_end il =
       record {
         does = λ M o k w q c h j.

@@ -9,42 +9,23 @@ ghost use Rattle.view.specs.Known.{Known};
 ghost use Rattle.wave.specs.Begin.{Waves};
 
 use crate::primal::primal_wave;
-use space::{Shape, Step};
+use definition::Infeasible;
+use space::{Passes, Queued, Shape};
+use view::Lists;
 
 // = waves, as many as are left
-pub fn waves(
-    domain: &[u8],
-    starts: &[usize],
-    index: &[usize],
-    coeff: &[f64],
-    cmp: &[u8],
-    rhs: &[f64],
-    adj: &[usize],
-    w: &mut [f64],
-    m: &mut [usize],
-    s: Shape,
-) -> Step
+pub fn waves(lists: Lists, w: &mut [f64], m: &mut [usize], s: Shape) -> Result<(), Infeasible>
     requires holds_f { HoldsF s w.old × HoldsN s m.old }
-    requires ready { Ready (Known domain.now starts.now index.now coeff.now cmp.now rhs.now adj.now) s (floats_of s w.old) (numbers_of s m.old) }
-    ensures { Waves (Known domain.now starts.now index.now coeff.now cmp.now rhs.now
-        adj.now) s (floats_of s w.old) (numbers_of s m.old) (floats_of s w.new) (numbers_of s m.new) result
+    requires ready { Ready (Known lists) s (floats_of s w.old) (numbers_of s m.old) }
+    ensures { Waves (Known lists.entry) s (floats_of s w.old) (numbers_of s m.old) (floats_of s w.new) (numbers_of s m.new) result
         (λ M u. definition.waves M (max_waves M.params - u.counts.passes) u) }
 {
     let cap = formulas::max_waves();
-    let mut p = space::get_passes(m, s);
-    while p < cap {
-        let q = space::get_queued(m, s);
-        if q == 0 {
-            return Step::Next;
+    for p in space::get::<Passes>(m, s, 0)..cap {
+        if space::get::<Queued>(m, s, 0) == 0 {
+            return Ok(());
         }
-        match primal_wave(domain, starts, index, coeff, cmp, rhs, adj, w, m, s) {
-            Step::Stop => {
-                return Step::Stop;
-            }
-            Step::Next => {
-                p += 1;
-            }
-        }
+        primal_wave(lists, w, m, s)?;
     }
-    Step::Next
+    Ok(())
 }

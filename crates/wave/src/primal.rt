@@ -11,66 +11,46 @@ ghost use Rattle.wave.specs.Begin.{Waves};
 
 use crate::one_row::wave_row;
 use crate::queue::copy_queue;
-use space::{Shape, Step};
+use definition::Infeasible;
+use space::{Passes, Queued, Shape, Wave};
+use view::Lists;
 
 // = wave_rows, over the n rows that stand in the block of the wave's rows
 fn wave_rows(
-    domain: &[u8],
-    starts: &[usize],
-    index: &[usize],
-    coeff: &[f64],
-    cmp: &[u8],
-    rhs: &[f64],
-    adj: &[usize],
+    lists: Lists,
     w: &mut [f64],
     m: &mut [usize],
     s: Shape,
     n: usize,
-) -> Step
+) -> Result<(), Infeasible>
     requires holds_f { HoldsF s w.old × HoldsN s m.old }
-    requires ready_wave { ReadyWave (Known domain.now starts.now index.now coeff.now cmp.now rhs.now adj.now) s (floats_of s w.old) (numbers_of s m.old) n }
-    ensures { TriesWave (Known domain.now starts.now index.now coeff.now cmp.now
-        rhs.now adj.now) s (floats_of s w.old) (numbers_of s m.old) (floats_of s w.new)
+    requires ready_wave { ReadyWave (Known lists) s (floats_of s w.old) (numbers_of s m.old) n }
+    ensures { TriesWave (Known lists.entry) s (floats_of s w.old) (numbers_of s m.old) (floats_of s w.new)
         (numbers_of s m.new) result n }
 {
-    let mut i: usize = 0;
-    while i < n {
-        let r = space::get_wave(m, s, i);
-        match wave_row(domain, starts, index, coeff, cmp, rhs, adj, w, m, s, r) {
-            Step::Stop => {
-                return Step::Stop;
-            }
-            Step::Next => {
-                i += 1;
-            }
-        }
+    for i in 0..n {
+        let r = space::get::<Wave>(m, s, i);
+        wave_row(lists, w, m, s, r)?;
     }
-    Step::Next
+    Ok(())
 }
 
 // = wave
 pub(crate) fn primal_wave(
-    domain: &[u8],
-    starts: &[usize],
-    index: &[usize],
-    coeff: &[f64],
-    cmp: &[u8],
-    rhs: &[f64],
-    adj: &[usize],
+    lists: Lists,
     w: &mut [f64],
     m: &mut [usize],
     s: Shape,
-) -> Step
+) -> Result<(), Infeasible>
     requires holds_f { HoldsF s w.old × HoldsN s m.old × (get_or (numbers_of s m.old).passes 0 0 < 30) }
-    requires ready { Ready (Known domain.now starts.now index.now coeff.now cmp.now rhs.now adj.now) s (floats_of s w.old) (numbers_of s m.old) }
-    ensures { Waves (Known domain.now starts.now index.now coeff.now cmp.now rhs.now
-        adj.now) s (floats_of s w.old) (numbers_of s m.old) (floats_of s w.new) (numbers_of s m.new) result
+    requires ready { Ready (Known lists) s (floats_of s w.old) (numbers_of s m.old) }
+    ensures { Waves (Known lists.entry) s (floats_of s w.old) (numbers_of s m.old) (floats_of s w.new) (numbers_of s m.new) result
         definition.wave }
 {
-    let n = space::get_queued(m, s);
+    let n = space::get::<Queued>(m, s, 0);
     copy_queue(m, s, n);
-    space::put_queued(m, s, 0);
-    let p = space::get_passes(m, s);
-    space::put_passes(m, s, p + 1);
-    wave_rows(domain, starts, index, coeff, cmp, rhs, adj, w, m, s, n)
+    space::put::<Queued>(m, s, 0, 0);
+    let p = space::get::<Passes>(m, s, 0);
+    space::put::<Passes>(m, s, 0, p + 1);
+    wave_rows(lists, w, m, s, n)
 }

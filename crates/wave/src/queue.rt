@@ -4,16 +4,15 @@ ghost use Rattle.std.specs.Prelude.{◌≤◌};
 ghost use Rattle.space.specs.Store.{numbers_of, HoldsN};
 ghost use Rattle.wave.specs.Begin.{Copied};
 
-use space::Shape;
+use space::{Queue, Shape, Wave};
 
+// No `copy_within`: space alone knows where a block stands.
 pub(crate) fn copy_queue(m: &mut [usize], s: Shape, n: usize)
     requires { (n ≤ s.rows) × HoldsN s m.old }
     ensures { Copied (numbers_of s m.old) (numbers_of s m.new) n }
 {
-    let mut i: usize = 0;
-    while i < n {
-        let r = space::get_queue(m, s, i);
-        space::put_wave(m, s, i, r);
-        i += 1;
+    for i in 0..n {
+        let r = space::get::<Queue>(m, s, i);
+        space::put::<Wave>(m, s, i, r);
     }
 }

@@ -3,13 +3,8 @@
 -- And a fault that is found is one: its condition fails at its place, nowhere before it, and every condition before it holds: that is the definition's
 -- own text (`earliest_fault`, `first`).
 use Prim.Native.Nat.{ℕ, ◌<◌}
-use Rattle.std.specs.Prelude.{◌≡◌, false, not, T}
-use Rattle.std.specs.Float.Ieee.{le}
-use Rattle.floats.specs.Zed.{A}
-use Rattle.tolerances.specs.Tol.{at}
-use Rattle.definition.specs.Tests.{or, and}
-use Rattle.whole_numbers.specs.Fault.{first}
-use Rattle.whole_numbers.specs.Fault.{Condition, conditions, objective, earliest_fault, fault, told}
+use Rattle.std.specs.Prelude.{◌≡◌, false}
+use Rattle.whole_numbers.specs.Fault.{Condition}
 
 -- a condition holds: its test fails it nowhere
 abbrev pub Holds : Condition → Type 0

@@ -1,47 +1,26 @@
--- The laws of `first`: what a loop that looks for the first place keeps, and what its answer says.
-use Rattle.std.specs.Prelude.{ℕ, zero, suc, ◌+◌, ◌-◌, ◌≤◌, ◌<◌, ◌≡◌, refl, Bool, true, false}
-use Rattle.std.proofs.Common.{add-one, arith, sym, ap, subst, ◌∙◌}
+-- The laws of `first`: what makes a place the first, and what its answer says.
+use Rattle.std.specs.Prelude.{ℕ, zero, suc, ◌+◌, ◌≤◌, ◌<◌, ◌≡◌, refl, Bool, true, false}
+use Rattle.std.proofs.Common.{arith, sym, ap, subst, ◌∙◌}
 use Rattle.std.proofs.Math.Decide.{ℕ_discrete}
+use Rattle.std.proofs.lemmas.Bool.{false≢true}
 use Rattle.floats.specs.Num.{choose}
 use Rattle.definition.specs.Choices.{chosen, left}
 use Rattle.whole_numbers.specs.Fault.{first}
 
--- ---- A LOOP over n places that ends at the first that passes: what is left from i on finds what the whole finds
-pub record Passed (p : ℕ → Bool) (n i : ℕ) : Type 0 where
-  pub within : i ≤ n
-  pub rest : first p (n - i) i ≡ first p n 0
-
-pub start : (p : ℕ → Bool) (n : ℕ) → Passed p n 0
-start p n = record { within = omega arith; rest = ap (λ (k : ℕ). first p k 0) whole }
+-- ---- the first that passes is the one that passes with none before it
+pub first_is : (p : ℕ → Bool) (n j i : ℕ) → j ≤ i → i < j + n → p i ≡ true → ((k : ℕ) → j ≤ k → k < i → p k ≡ false) → i ≡ first p n j
+unfolding first
+first_is p zero j i a b e h = absurd (omega arith)
+first_is p (suc n) j i a b e h = go (p j) refl (first_is p n (suc j) i)
   where
-    whole : n - 0 ≡ n
-    whole = omega arith
-
-step : (p : ℕ → Bool) (n i m : ℕ) → n - i ≡ suc m → first p (n - i) i ≡ choose (p i) i (first p m (suc i))
-unfolding first
-step p n i m e = ap (λ (k : ℕ). first p k i) e
-
-less : (n i : ℕ) → i < n → n - i ≡ suc (n - (i + 1))
-less n i h = omega arith
-
-pub turn : {p : ℕ → Bool} {n i : ℕ} → Passed p n i → i < n → p i ≡ false → Passed p n (i + 1)
-turn {p} {n} {i} h l e =
-    let s = step p n i (n - (i + 1)) (less n i l) ∙ left i _ e in
-    record { within = omega arith; rest = ap (first p (n - (i + 1))) (add-one i) ∙ sym s ∙ h.rest }
-
-pub found : {p : ℕ → Bool} {n i : ℕ} → Passed p n i → i < n → p i ≡ true → i ≡ first p n 0
-found {p} {n} {i} h l e = sym (sym h.rest ∙ step p n i (n - (i + 1)) (less n i l) ∙ chosen i _ e)
-
--- the same where the test was called: b is what it answered
-pub turn_by : {p : ℕ → Bool} {n i : ℕ} {b : Bool} → Passed p n i → i < n → b ≡ p i → b ≡ false → Passed p n (i + 1)
-turn_by h l e f = turn h l (sym e ∙ f)
-
-pub found_by : {p : ℕ → Bool} {n i : ℕ} {b : Bool} → Passed p n i → i < n → b ≡ p i → b ≡ true → i ≡ first p n 0
-found_by h l e f = found h l (sym e ∙ f)
-
-pub end : {p : ℕ → Bool} {n i : ℕ} → Passed p n i → n ≤ i → i ≡ first p n 0
-unfolding first
-end {p} {n} {i} h l = let e : n - i ≡ 0 = omega (arith, h.within) in sym (sym h.rest ∙ ap (λ (k : ℕ). first p k i) e)
+    go : (b : Bool) → p j ≡ b → (suc j ≤ i → i < suc j + n → p i ≡ true → ((k : ℕ) → suc j ≤ k → k < i → p k ≡ false) → i ≡ first p n (suc j)) → i ≡ first p (suc n) j
+    go true q later =
+        elim (ℕ_discrete j i) [ yes s ↦ sym (chosen j (first p n (suc j)) q ∙ s) | no s ↦ absurd (false≢true (sym (h j (omega arith) (omega (arith, s))) ∙ q)) ]
+    go false q later =
+        elim (ℕ_discrete j i) [
+          | yes s ↦ absurd (false≢true (sym (ap p (sym s) ∙ q) ∙ e))
+          | no s ↦ later (omega (arith, s)) (omega arith) e (λ k u v. h k (omega (arith, u)) v) ∙ sym (left j (first p n (suc j)) q)
+        ]
 
 -- ---- what the answer says: no place passes exactly where the first one is past the end
 pub none_pass : (p : ℕ → Bool) (n j : ℕ) → j + n ≤ first p n j → (i : ℕ) → j ≤ i → i < j + n → p i ≡ false

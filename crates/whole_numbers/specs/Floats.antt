@@ -63,6 +63,9 @@ within_is x limit k l = go (is_whole x) refl
 unfoldable pub beyond : Float → List Float → ℕ → Bool
 beyond limit xs i = not (is_whole (at xs i) && le (abs (at xs i)) limit)
 
-pub beyond_is : (limit : Float) (k : ℕ) → Is limit (pos k) → (xs : List Float) (n : ℕ) → first (beyond limit xs) n 0 ≡ first (number_off k xs) n 0
+pub beyond_at : (limit : Float) (k : ℕ) → Is limit (pos k) → (xs : List Float) (i : ℕ) → beyond limit xs i ≡ number_off k xs i
 unfolding beyond number_off
-beyond_is limit k l xs n = alike (λ i. ap not (within_is (at xs i) limit k l)) n 0
+beyond_at limit k l xs i = ap not (within_is (at xs i) limit k l)
+
+pub beyond_is : (limit : Float) (k : ℕ) → Is limit (pos k) → (xs : List Float) (n : ℕ) → first (beyond limit xs) n 0 ≡ first (number_off k xs) n 0
+beyond_is limit k l xs n = alike (beyond_at limit k l xs) n 0

@@ -4,22 +4,12 @@
 ghost use Rattle.std.specs.Prelude.{◌≡◌, length, replicate};
 ghost use Rattle.floats.specs.Num.{0f};
 
-pub fn clear_floats(w: &mut [f64])
-    ensures { w.new ≡ replicate (length w.old) 0f }
+pub fn clear(floats: &mut [f64], numbers: &mut [usize], adjacency: &mut [usize])
+    ensures floats_zero { floats.new ≡ replicate (length floats.old) 0f }
+    ensures numbers_zero { numbers.new ≡ replicate (length numbers.old) 0 }
+    ensures adjacency_zero { adjacency.new ≡ replicate (length adjacency.old) 0 }
 {
-    let mut i: usize = 0;
-    while i < w.len() {
-        w[i] = 0.0;
-        i += 1;
-    }
-}
-
-pub fn clear_numbers(m: &mut [usize])
-    ensures { m.new ≡ replicate (length m.old) 0 }
-{
-    let mut i: usize = 0;
-    while i < m.len() {
-        m[i] = 0;
-        i += 1;
-    }
+    floats.fill(0.0);
+    numbers.fill(0);
+    adjacency.fill(0);
 }

@@ -1,23 +1,23 @@
 -- `implied_term`: both halves are quiet, or they are gone through.
-use Rattle.view.specs.Steps.{ready_under}
-use Rattle.bounds.specs.Moves.{bounding_domain}
-use Rattle.rows.specs.Knowing.{moves_bounding}
-use Rattle.implied.specs.Sides.{term_halves, term_quiet}
-use borrow.Author.Rules.{rules}
+use Rattle.std.proofs.lemmas.Result.{err_from_is_err_and}
+use Rattle.view.specs.Steps.{ready_went}
+use Rattle.rows.specs.Steps.{tries_is}
+use Rattle.implied.specs.Sides.{side_keeps, term_then, term_stop, term_quiet}
 use Rattle.implied.proofs.implied_term.Goals as goal
 
-pub quiet-requires : goal.quiet-requires
-quiet-requires c = (search rules, search rules, bounding_domain (ready_under moves_bounding c.requires.ready) c.requires.r_lt_rows.1)
-
-pub quiet-requires-then-quiet : goal.quiet-requires-then-quiet
-quiet-requires-then-quiet c = (c.requires.r_lt_rows.1, c.requires.r_lt_rows.2, bounding_domain (ready_under moves_bounding c.requires.ready) c.requires.r_lt_rows.1)
-
 pub returns-then-quiet-2 : goal.returns-then-quiet-2
-returns-then-quiet-2 c = term_quiet _ _ _ _ _ c.get_wlo-lo.ensures
-    c.get_whi-hi.ensures c.range_min-cmin.ensures c.range_max-cmax.ensures c.hi_of-high.ensures
-    c.lo_of-low.ensures (c.quiet.ensures c.if-quiet.true) (c.quiet-then-quiet.ensures c.if-quiet-2.true)
+returns-then-quiet-2 c = term_quiet _ c.args.x _ _ _ c.get-lo.ensures c.get-hi.ensures c.range_min.ensures c.range_max.ensures c.hi_of.ensures c.lo_of.ensures
+    (c.quiet.ensures c.if-quiet.true) (c.quiet-then-quiet.ensures c.if-quiet-2.true)
+
+pub returns-in_err-tighten : goal.returns-in_err-tighten
+returns-in_err-tighten c =
+    let p = err_from_is_err_and c.from_residual.result c.from_residual.ensures.1 in
+    rw p.1 (term_stop _ c.args.x _ _ _ c.get-lo.ensures c.get-hi.ensures c.range_min.ensures c.range_max.ensures c.hi_of.ensures c.lo_of.ensures
+    (tries_is c.tighten.ensures c.in_err-tighten.was))
+
+pub tighten-requires-2-clause-ready : goal.tighten-requires-2-clause-ready
+tighten-requires-2-clause-ready c = ready_went c.requires.ready (tries_is c.tighten.ensures c.in_ok-tighten.was) (side_keeps _ _ _ _ _ _)
 
 pub returns : goal.returns
-returns c = term_halves _ _ _ _ _ c.get_wlo-lo.ensures
-    c.get_whi-hi.ensures c.range_min-cmin.ensures c.range_max-cmax.ensures
-    c.implied_halves.ensures
+returns c = term_then _ c.args.x _ _ _ c.get-lo.ensures c.get-hi.ensures c.range_min.ensures c.range_max.ensures c.hi_of.ensures c.lo_of.ensures
+    (tries_is c.tighten.ensures c.in_ok-tighten.was) c.tighten-2.ensures

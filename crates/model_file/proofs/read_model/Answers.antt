@@ -1,26 +1,19 @@
 -- The answer goes by what the checking pass saw and by the room there is.
-use mathlib.Core.Path.{sym, ◌∙◌}
-use Rattle.model_file.specs.Answers.{answer_refused, answer_few_vars, answer_few_rows, answer_ready, answer_model}
+use Rattle.std.proofs.Common.{ap, sym, refl, ◌∙◌}
+use Rattle.model_file.specs.Reading.{FileRead, lent, out}
+use Rattle.model_file.proofs.Exits.{file_failed}
+use Rattle.model_file.specs.Answers.{answer_refused, answer_few, answer_roomy, answer_read}
 use Rattle.model_file.proofs.read_model.Goals as goal
 
-pub returns-then-not-room_variables : goal.returns-then-not-room_variables
-returns-then-not-room_variables c = answer_few_vars _ _ (sym c.in-Model.is ∙ c.scan.ensures)
-    (sym c.room_variables.ensures ∙ c.if-not-room_variables.true)
+pub returns-in_err-header-clause-read : goal.returns-in_err-header-clause-read
+returns-in_err-header-clause-read c =
+    ap (λ (x : FileRead). out x (lent c.args.model.now)) (file_failed _ _ c.from_residual.ensures.1 refl) ∙ answer_refused _ _ c.in_err-header.ensures
 
-pub returns-then-not-room_rows : goal.returns-then-not-room_rows
-returns-then-not-room_rows c = answer_few_rows _ _ (sym c.in-Model.is
-    ∙ c.scan.ensures) (sym c.room_variables.ensures ∙ c.if-not-room_variables.false)
-    (sym c.room_rows.ensures ∙ c.if-not-room_rows.true)
+pub returns-then-not-has_room-clause-read : goal.returns-then-not-has_room-clause-read
+returns-then-not-has_room-clause-read c = answer_few _ _ c.in_ok-header.ensures (sym c.has_room.ensures ∙ c.if-not-has_room.true)
 
 pub fill_model-requires : goal.fill_model-requires
-fill_model-requires c = answer_ready _ _ (sym c.in-Model.is ∙ c.scan.ensures)
-    (sym c.room_variables.ensures ∙ c.if-not-room_variables.false) (sym c.room_rows.ensures
-    ∙ c.if-not-room_rows.false)
+fill_model-requires c = answer_roomy _ _ c.in_ok-header.ensures (sym c.has_room.ensures ∙ c.if-not-has_room.false)
 
-pub returns-in-Refused : goal.returns-in-Refused
-returns-in-Refused c = answer_refused _ _ (sym c.in-Refused.is ∙ c.scan.ensures)
-
-pub returns-else-not-room_rows : goal.returns-else-not-room_rows
-returns-else-not-room_rows c = answer_model _ _ (sym c.in-Model.is ∙ c.scan.ensures) (sym c.room_variables.ensures
-    ∙ c.if-not-room_variables.false) (sym c.room_rows.ensures ∙ c.if-not-room_rows.false)
-    c.fill_model.ensures
+pub returns-clause-read : goal.returns-clause-read
+returns-clause-read c = answer_read _ _ c.in_ok-header.ensures (sym c.has_room.ensures ∙ c.if-not-has_room.false) c.in_ok-fill_model.ensures.filled

@@ -5,4 +5,4 @@ use Rattle.rows.proofs.drop_row.Goals as goal
 
 pub returns : goal.returns
 returns c = drop_acts _ c.requires.0 (alive_length _ _ c.requires.1) (dropped_length _ _ c.requires.1)
-    c.put_alive.ensures c.count_dropped.ensures
+    c.put.ensures c.count.ensures

@@ -3,7 +3,7 @@ use Rattle.view.specs.Acts.{ready_after}
 use Rattle.folds.specs.Stands.{standing, turns_acts}
 use Rattle.folds.specs.Kept.{fold_fixed_keeps}
 use Rattle.settle.specs.Settling.{alive_empty, alive_left}
-use borrow.Author.Rules.{rules}
+use Rattle.std.proofs.Common.{rules}
 use Rattle.settle.proofs.settle_alive.Goals as goal
 
 pub fold_row-requires : goal.fold_row-requires
@@ -18,9 +18,9 @@ empty_row_check-requires c = record {
 
 pub returns-then-len-eq0 : goal.returns-then-len-eq0
 returns-then-len-eq0 c = alive_empty _ c.requires.r_lt_rows.0 c.requires.r_lt_rows.3 (turns_acts c.requires.r_lt_rows.0 c.requires.r_lt_rows.3 c.fold_row.ensures)
-    c.get_len-len.ensures c.if-len-eq0.true c.empty_row_check.ensures
+    c.get-len.ensures c.if-len-eq0.true c.empty_row_check.ensures
 
 pub returns : goal.returns
 returns c = alive_left _ c.requires.r_lt_rows.0 c.requires.r_lt_rows.3
     (turns_acts c.requires.r_lt_rows.0 c.requires.r_lt_rows.3 c.fold_row.ensures)
-    c.get_len-len.ensures c.if-len-eq0.false
+    c.get-len.ensures c.if-len-eq0.false

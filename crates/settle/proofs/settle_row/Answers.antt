@@ -11,8 +11,8 @@ returns-then-is_trivial c = row_trivial _ c.requires.r_lt_rows.0 written_gives c
 
 pub returns-then-alive-eq1 : goal.returns-then-alive-eq1
 returns-then-alive-eq1 c = row_live _ c.requires.r_lt_rows.0 written_gives c.is_trivial.ensures c.if-is_trivial.false
-    c.get_alive-alive.ensures c.if-alive-eq1.true c.settle_alive.ensures
+    c.get-alive.ensures c.if-alive-eq1.true c.settle_alive.ensures
 
 pub returns : goal.returns
 returns c = row_gone _ c.requires.r_lt_rows.0 written_gives c.is_trivial.ensures _ _
-    c.if-is_trivial.false c.get_alive-alive.ensures c.if-alive-eq1.false
+    c.if-is_trivial.false c.get-alive.ensures c.if-alive-eq1.false

@@ -1,15 +1,8 @@
 -- `settle_rows` is settle_from, of all rows.
-use Prim.Native.Nat.{◌-◌}
-use mathlib.Core.Path.{◌≡◌}
-use lib.ListN.{length}
 use Rattle.space.specs.Store.{floats_of, numbers_of}
 use Rattle.view.specs.Known.{Written}
 use Rattle.settle.specs.Settling.{Settling}
 use Rattle.settle.proofs.settle_rows.Given as goal
 
 abbrev pub invariant-loop-r : goal.invariant-loop-r
-invariant-loop-r l = (length l.w ≡ length l.initial.w) × (length l.m ≡ length l.initial.m)
-    × Settling (Written l.starts l.index l.coeff l.cmp l.rhs) l.s (floats_of l.s l.initial.w) (numbers_of l.s l.initial.m) (floats_of l.s l.w) (numbers_of l.s l.m) l.r
-
-abbrev pub decreases-loop-r : goal.decreases-loop-r
-decreases-loop-r l = l.s.rows - l.r
+invariant-loop-r l = Settling (Written l.rows) l.s (floats_of l.s l.initial.w) (numbers_of l.s l.initial.m) (floats_of l.s l.w) (numbers_of l.s l.m) l.r

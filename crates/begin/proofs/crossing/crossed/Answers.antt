@@ -1,14 +1,16 @@
 -- `crossed` computes its definition.
-use Prim.Native.Nat.{◌-◌}
-use Rattle.begin.specs.Crossing.{cross_stop, cross_turn, cross_end}
-use borrow.Author.Rules.{rules}
+use Rattle.std.specs.Prelude.{Float}
+use Rattle.std.proofs.Common.{◌∙◌, rules, tests}
+use Rattle.std.proofs.lemmas.Iterator.{YieldsList-from_slice, YieldsList-from_zip}
+use Rattle.std.proofs.lemmas.Iterator.Consumers.{YieldsList-at}
+use Rattle.std.proofs.lemmas.Iterator.Search.{any_from_yields_List}
+use Rattle.floats.specs.Num.{gt}
+use Rattle.begin.specs.Crossing.{crossed_pairs}
 use Rattle.begin.proofs.crossing.crossed.Goals as goal
 
-pub returns-then-lower-v : goal.returns-then-lower-v
-returns-then-lower-v c = search (cross_stop, rules)
-
-pub loop-v-preserved : goal.loop-v-preserved
-loop-v-preserved c = search (cross_turn, rules)
-
 pub returns : goal.returns
-returns c = search (cross_end, rules)
+returns c =
+    any_from_yields_List (λ (p : Float × Float). gt p.0 p.1) c.any.new.self _ _ c.any.ensures.ran
+    (YieldsList-from_zip (YieldsList-at c.zip.ensures.first (YieldsList-from_slice c.args.lower.now c.iter.ensures.rest))
+    (YieldsList-from_slice c.args.upper.now c.zip.ensures.second.0)) (λ x b q k. search (rules, tests))
+    ∙ crossed_pairs _ _

@@ -1,16 +1,19 @@
 -- `upper_int` is upper_int.
+use Rattle.std.specs.Prelude.{Ok}
+use Rattle.std.proofs.Common.{ap, ◌∙◌}
+use Rattle.std.proofs.lemmas.Result.{err_from_is_err_and}
 use Rattle.bounds.specs.Moves.{upper_int_leave, upper_int_stop, upper_int_tight}
 use Rattle.bounds.proofs.bounds.upper_int.Goals as goal
 
-pub returns-in-Leave : goal.returns-in-Leave
-returns-in-Leave c = upper_int_leave _ _ c.get_ehi-ehi.ensures c.get_wlo-wlo.ensures
-    c.upper_int_move.ensures c.in-Leave.is
+pub returns-in_err-upper_int_move : goal.returns-in_err-upper_int_move
+returns-in_err-upper_int_move c =
+    let p = err_from_is_err_and c.from_residual.result c.from_residual.ensures.1 in
+    rw p.1 (upper_int_stop _ _ c.get-ehi.ensures c.get-wlo.ensures c.upper_int_move.ensures c.in_err-upper_int_move.was)
 
-pub returns-in-Stop : goal.returns-in-Stop
-returns-in-Stop c = upper_int_stop _ _ c.get_ehi-ehi.ensures c.get_wlo-wlo.ensures
-    c.upper_int_move.ensures c.in-Stop.is
+pub returns-then-branch : goal.returns-then-branch
+returns-then-branch c = upper_int_tight _ _ c.get-ehi.ensures c.get-wlo.ensures c.upper_int_move.ensures
+    (c.in_ok-upper_int_move.was ∙ ap Ok c.if-branch.true) c.get-whi.ensures c.put.ensures c.smaller.ensures c.put-then-branch.ensures c.mark_tightened.ensures
 
-pub returns-in-Tighten : goal.returns-in-Tighten
-returns-in-Tighten c = upper_int_tight _ _ c.get_ehi-ehi.ensures c.get_wlo-wlo.ensures
-    c.upper_int_move.ensures c.in-Tighten.is c.get_whi-whi.ensures
-    c.put_ehi.ensures c.smaller.ensures c.put_whi.ensures c.mark_tightened.ensures
+pub returns-else-branch : goal.returns-else-branch
+returns-else-branch c = upper_int_leave _ _ c.get-ehi.ensures c.get-wlo.ensures c.upper_int_move.ensures
+    (c.in_ok-upper_int_move.was ∙ ap Ok c.if-branch.false)

@@ -1,19 +1,19 @@
 -- `upper_real` is upper_real.
+use Rattle.std.specs.Prelude.{Ok}
+use Rattle.std.proofs.Common.{ap, ◌∙◌}
+use Rattle.std.proofs.lemmas.Result.{err_from_is_err_and}
 use Rattle.bounds.specs.Moves.{upper_real_leave, upper_real_stop, upper_real_tight}
 use Rattle.bounds.proofs.bounds.upper_real.Goals as goal
 
-pub returns-in-Leave : goal.returns-in-Leave
-returns-in-Leave c = upper_real_leave _ _ c.get_whi-whi.ensures
-    c.get_wlo-wlo.ensures c.get_elo-elo.ensures
-    c.bound_tolerance-tol.ensures c.upper_real_move.ensures c.in-Leave.is
+pub returns-in_err-upper_real_move : goal.returns-in_err-upper_real_move
+returns-in_err-upper_real_move c =
+    let p = err_from_is_err_and c.from_residual.result c.from_residual.ensures.1 in
+    rw p.1 (upper_real_stop _ _ c.get-whi.ensures c.get-wlo.ensures c.get-elo.ensures c.bound_tolerance-tol.ensures c.upper_real_move.ensures c.in_err-upper_real_move.was)
 
-pub returns-in-Stop : goal.returns-in-Stop
-returns-in-Stop c = upper_real_stop _ _ c.get_whi-whi.ensures
-    c.get_wlo-wlo.ensures c.get_elo-elo.ensures
-    c.bound_tolerance-tol.ensures c.upper_real_move.ensures c.in-Stop.is
+pub returns-then-branch : goal.returns-then-branch
+returns-then-branch c = upper_real_tight _ _ c.get-whi.ensures c.get-wlo.ensures c.get-elo.ensures c.bound_tolerance-tol.ensures c.upper_real_move.ensures
+    (c.in_ok-upper_real_move.was ∙ ap Ok c.if-branch.true) c.put.ensures c.mark_tightened.ensures
 
-pub returns-in-Tighten : goal.returns-in-Tighten
-returns-in-Tighten c = upper_real_tight _ _ c.get_whi-whi.ensures
-    c.get_wlo-wlo.ensures c.get_elo-elo.ensures c.bound_tolerance-tol.ensures
-    c.upper_real_move.ensures c.in-Tighten.is
-    c.put_whi.ensures c.mark_tightened.ensures
+pub returns-else-branch : goal.returns-else-branch
+returns-else-branch c = upper_real_leave _ _ c.get-whi.ensures c.get-wlo.ensures c.get-elo.ensures c.bound_tolerance-tol.ensures c.upper_real_move.ensures
+    (c.in_ok-upper_real_move.was ∙ ap Ok c.if-branch.false)

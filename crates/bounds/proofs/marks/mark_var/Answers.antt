@@ -1,27 +1,24 @@
--- `mark_var` is mark_var.
+-- `mark_var` is mark_row over the rows of v.
 use native.Mathlib.Omega.{arith}
 use mathlib.Core.Path.{refl}
-use Rattle.view.specs.Acts.{ready_any}
-use Rattle.view.specs.Adjacency.{adj_long, adj_rise, adj_within, adj_rows, var_end}
+use Rattle.view.specs.Marks.{rows_row, rows_turn}
+use Rattle.bounds.specs.Flags.{flags_refl, flags_then}
+use Rattle.bounds.proofs.Rows.{own_start, own_end}
 use borrow.Author.Rules.{rules}
 use Rattle.bounds.proofs.marks.mark_var.Goals as goal
 
-pub overflow_add-a : goal.overflow_add-a
-overflow_add-a c = omega (arith, adj_long c.requires.ready_n c.requires.v_lt_vars.0, adj_rise c.requires.ready_n c.requires.v_lt_vars.0, adj_within c.requires.ready_n c.requires.v_lt_vars.0)
+pub loop-r-init : goal.loop-r-init
+loop-r-init c = (refl, own_start c.requires.ready_n c.requires.v_lt_vars.0, flags_refl)
 
-pub overflow_add-e-2 : goal.overflow_add-e-2
-overflow_add-e-2 c = omega (arith, adj_long c.requires.ready_n c.requires.v_lt_vars.0, adj_rise c.requires.ready_n c.requires.v_lt_vars.0, adj_within c.requires.ready_n c.requires.v_lt_vars.0)
+pub mark_row-requires : goal.mark_row-requires
+mark_row-requires c = record { r_lt_rows = search (rows_row, rules); ready_n = c.loop-r.invariant.1.ready }
 
-pub mark_rows-requires : goal.mark_rows-requires
-mark_rows-requires c = record {
-  a_le_e = (
-    omega (arith, adj_long c.requires.ready_n c.requires.v_lt_vars.0, adj_rise c.requires.ready_n c.requires.v_lt_vars.0, adj_within c.requires.ready_n c.requires.v_lt_vars.0),
-    omega (arith, adj_long c.requires.ready_n c.requires.v_lt_vars.0, adj_rise c.requires.ready_n c.requires.v_lt_vars.0, adj_within c.requires.ready_n c.requires.v_lt_vars.0),
-    omega arith,
-  );
-  below = search (adj_rows, ready_any);
-  ready_n = search (adj_rows, ready_any);
-}
+pub loop-r-preserved : goal.loop-r-preserved
+loop-r-preserved c = (
+  search rules,
+  rows_turn c.loop-r.invariant.1 c.loop-r-test.true refl c.mark_row.ensures.acts_n,
+  search flags_then,
+)
 
 pub returns : goal.returns
-returns c = record { acts_n = var_end c.requires.v_lt_vars.0 refl refl c.mark_rows.ensures.acts_n; flags_kept = search rules }
+returns c = record { acts_n = own_end c.requires.ready_n c.requires.v_lt_vars.0 c.loop-r.invariant.1 (omega arith); flags_kept = c.loop-r.invariant.2 }

@@ -1,5 +1,4 @@
 -- `binding_sum`: what is left of the definition from the k-th binary on gives the whole.
-use Prim.Native.Nat.{◌-◌}
 use Rattle.coeffs.specs.Bound.{bind_start, bind_turn, bind_end}
 use Rattle.coeffs.proofs.bindings.binding_sum.Goals as goal
 

@@ -1,5 +1,4 @@
 -- `binding_sum`: what is left of the definition from the k-th binary on gives the whole.
-use Prim.Native.Nat.{◌-◌}
 use Rattle.space.specs.Store.{floats_of, numbers_of}
 use Rattle.view.specs.Known.{Written}
 use Rattle.coeffs.specs.Over.{Over}
@@ -7,8 +6,5 @@ use Rattle.coeffs.specs.Bound.{bind_from, bind_all}
 use Rattle.coeffs.proofs.bindings.binding_sum.Given as goal
 
 abbrev pub invariant-loop-k : goal.invariant-loop-k
-invariant-loop-k l = Over (Written l.starts l.index l.coeff l.cmp l.rhs) l.s (floats_of l.s l.w) (numbers_of l.s l.m) l.r l.k l.d (bind_from l.r)
+invariant-loop-k l = Over (Written l.rows) l.s (floats_of l.s l.w) (numbers_of l.s l.m) l.r l.k l.d (bind_from l.r)
     (bind_all l.r l.b)
-
-abbrev pub decreases-loop-k : goal.decreases-loop-k
-decreases-loop-k l = l.n - l.k

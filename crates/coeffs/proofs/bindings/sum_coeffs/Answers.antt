@@ -1,5 +1,4 @@
 -- `sum_coeffs`: what is left of the definition from the k-th binary on gives the whole.
-use Prim.Native.Nat.{◌-◌}
 use native.Mathlib.Omega.{arith}
 use Rattle.readers.specs.RowAt.{row_ready}
 use Rattle.coeffs.specs.Over.{over_place, over_small, over_term}
@@ -15,11 +14,11 @@ loop-k-init c = sum_start _
 pub overflow_add-a : goal.overflow_add-a
 overflow_add-a c = omega (
   arith,
-  over_small c.requires.ready (λ M q. q) c.requires.r_lt_rows.0 c.requires.r_lt_rows.3 c.get_binaries-n.ensures c.loop-k-test.true,
+  over_small {k = c.loop-k.k} c.requires.ready (λ M q. q) c.requires.r_lt_rows.0 c.requires.r_lt_rows.3 c.get-n.ensures (omega arith),
 )
 
-pub get_binary-v-requires : goal.get_binary-v-requires
-get_binary-v-requires c = search over_place
+pub get-v-requires : goal.get-v-requires
+get-v-requires c = search over_place
 
 pub row_coeff-x-requires : goal.row_coeff-x-requires
 row_coeff-x-requires c = search over_term

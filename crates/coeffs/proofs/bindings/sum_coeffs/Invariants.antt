@@ -1,5 +1,4 @@
 -- `sum_coeffs`: what is left of the definition from the k-th binary on gives the whole.
-use Prim.Native.Nat.{◌-◌}
 use Rattle.space.specs.Store.{floats_of, numbers_of}
 use Rattle.view.specs.Known.{Spans}
 use Rattle.coeffs.specs.Over.{Over}
@@ -8,6 +7,3 @@ use Rattle.coeffs.proofs.bindings.sum_coeffs.Given as goal
 
 abbrev pub invariant-loop-k : goal.invariant-loop-k
 invariant-loop-k l = Over (Spans l.starts) l.s (floats_of l.s l.w) (numbers_of l.s l.m) l.r l.k l.sum (sum_from l.r) (sum_all l.r)
-
-abbrev pub decreases-loop-k : goal.decreases-loop-k
-decreases-loop-k l = l.n - l.k

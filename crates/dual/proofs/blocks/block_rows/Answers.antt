@@ -1,5 +1,4 @@
 -- `block_rows`: after r rows, the flags are those of the first r.
-use Prim.Native.Nat.{◌-◌}
 use Rattle.dual.specs.Flags.{ready_flags}
 use Rattle.dual.specs.Barring.{rows_start, rows_turn, rows_end}
 use borrow.Author.Rules.{rules}

@@ -1,5 +1,4 @@
 -- `block_terms`: after i terms, the flags are those of the first i.
-use Prim.Native.Nat.{◌-◌}
 use mathlib.Core.Path.{refl}
 use Rattle.dual.specs.Barring.{bar_start, bar_var, bar_turn, bar_end}
 use borrow.Author.Rules.{rules}

@@ -1,5 +1,4 @@
 -- `block_terms`: after i terms, the flags are those of the first i.
-use Prim.Native.Nat.{◌-◌}
 use mathlib.Core.Path.{◌≡◌}
 use lib.ListN.{length}
 use Rattle.space.specs.Store.{floats_of, numbers_of}
@@ -8,6 +7,3 @@ use Rattle.dual.proofs.blocks.block_terms.Given as goal
 
 abbrev pub invariant-loop-i : goal.invariant-loop-i
 invariant-loop-i l = (length l.m ≡ length l.initial.m) × Barring l.s l.a l.k l.i l.ge l.le (floats_of l.s l.w) (numbers_of l.s l.initial.m) (numbers_of l.s l.m)
-
-abbrev pub decreases-loop-i : goal.decreases-loop-i
-decreases-loop-i l = l.k - l.i

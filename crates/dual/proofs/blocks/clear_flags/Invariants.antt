@@ -1,5 +1,4 @@
 -- `clear_flags`: the flags of the variables below v are clear.
-use Prim.Native.Nat.{◌-◌}
 use mathlib.Core.Path.{◌≡◌}
 use lib.ListN.{length}
 use Rattle.space.specs.Store.{numbers_of}
@@ -8,6 +7,3 @@ use Rattle.dual.proofs.blocks.clear_flags.Given as goal
 
 abbrev pub invariant-loop-v : goal.invariant-loop-v
 invariant-loop-v l = (length l.m ≡ length l.initial.m) × Clearing l.s l.v (numbers_of l.s l.initial.m) (numbers_of l.s l.m)
-
-abbrev pub decreases-loop-v : goal.decreases-loop-v
-decreases-loop-v l = l.s.vars - l.v

@@ -17,8 +17,8 @@ falls-requires c = search obj_in
 pub returns-then-falls : goal.returns-then-falls
 returns-then-falls c = record {
   acts_bool = var_falls _ _ c.stays.ensures c.if-stays.false c.requires.v_lt_vars.0 (bad_dec_length _ _ c.requires.v_lt_vars.2) c.falls.ensures
-      c.if-falls.true c.get_wlo-lo.ensures
-      c.fix_beside.ensures.acts;
+      c.if-falls.true c.get-lo.ensures
+      c.fix.ensures.acts;
   flags_kept = search rules;
 }
 
@@ -29,8 +29,8 @@ pub returns-then-rises : goal.returns-then-rises
 returns-then-rises c = record {
   acts_bool = var_rises _ _ c.stays.ensures c.if-stays.false c.requires.v_lt_vars.0 (bad_dec_length _ _ c.requires.v_lt_vars.2) c.falls.ensures
       c.if-falls.false (bad_inc_length _ _ c.requires.v_lt_vars.2) c.rises.ensures c.if-rises.true
-      c.get_whi-hi.ensures c.fix_beside-then-rises.ensures.acts;
-  flags_kept = c.fix_beside-then-rises.ensures.flags_kept;
+      c.get-hi.ensures c.fix-then-rises.ensures.acts;
+  flags_kept = c.fix-then-rises.ensures.flags_kept;
 }
 
 pub returns : goal.returns

@@ -1,5 +1,4 @@
 -- `dual_vars`: what is left of the definition from v on gives the whole.
-use Prim.Native.Nat.{◌-◌}
 use Rattle.dual.specs.Fixing.{vars_start, vars_turn, vars_end}
 use borrow.Author.Rules.{rules}
 use Rattle.dual.proofs.fixing.dual_vars.Goals as goal

@@ -1,28 +1,22 @@
 -- `write_emitted` is row and rewritten of emitted, at the front of the slices.
-use borrow.Author.Rules.{rules}
-use Prim.Native.Nat.{◌-◌}
-use native.Mathlib.Omega.{arith}
-use Rattle.emit.specs.Filling.{fill_start, fill_kept, fill_room, fill_turn, fill_end}
+use Rattle.std.proofs.Common.{◌≡◌, ◌∙◌, refl, rules, tests}
+use Rattle.row_terms.specs.RowMark.{mark}
+use Rattle.emit.specs.Fates.{collect_count}
+use Rattle.emit.specs.FateNumbers.{emits, rewrites, out_now, mark_now}
 use Rattle.emit.proofs.entries.write_emitted.Goals as goal
 
-pub loop-r-init : goal.loop-r-init
-loop-r-init c = search (fill_start, rules)
+pub returns-clause-filled : goal.returns-clause-filled
+returns-clause-filled c = c.collect-2.ensures _ _
+    (record {
+      test = λ r z b l F q. let e : b ≡ emits z = search (rules, tests) in out_now F e refl;
+      value = λ r z x l F q. search (rules, tests);
+    })
 
-pub emit_row-n-requires : goal.emit_row-n-requires
-emit_row-n-requires c = search (fill_room, rules)
-
-pub loop-r-preserved : goal.loop-r-preserved
-loop-r-preserved c = (
-  omega arith,
-  fill_turn _ _ c.loop-r.invariant.1 (omega arith) c.requires.1 c.emit_row-n.ensures.put_if,
-  fill_turn _ _ c.loop-r.invariant.2 (omega arith) c.requires.2 c.emit_row-n.ensures.put_if_2,
-)
-
-pub shape_of-row : goal.shape_of-row
-shape_of-row c = fill_kept _ _ c.loop-r.invariant.1 (omega arith)
-
-pub shape_of-rewritten : goal.shape_of-rewritten
-shape_of-rewritten c = fill_kept _ _ c.loop-r.invariant.2 (omega arith)
-
-pub returns : goal.returns
-returns c = search (fill_end, rules)
+pub returns-clause-filled_2 : goal.returns-clause-filled_2
+returns-clause-filled_2 c =
+    let marks = c.collect.ensures _ _
+    (record {
+      test = λ r z b l F q. let e : b ≡ emits z = search (rules, tests) in out_now F e refl;
+      value = λ r z x l F q. let e : x ≡ mark (rewrites z) = search (rules, tests) in mark_now F e;
+    }) in
+    record { list = marks.list; count = (returns-clause-filled c).count ∙ collect_count _ _ _ _ }

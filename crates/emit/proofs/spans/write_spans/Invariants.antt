@@ -1,15 +1,12 @@
 -- `write_spans` is from and upto of emitted, at the front of the slices.
-use Prim.Native.Nat.{◌-◌}
+use Rattle.std.proofs.Common.{◌≡◌}
 use Rattle.space.specs.Store.{numbers_of}
 use Rattle.emit.specs.Fates.{out_at}
 use Rattle.emit.specs.Filling.{Filled}
-use Rattle.emit.specs.Spans.{start_at, end_at, Before}
+use Rattle.emit.specs.Spans.{terms_to, start_at, end_at}
 use Rattle.emit.proofs.spans.write_spans.Given as goal
 
 abbrev pub invariant-loop-r : goal.invariant-loop-r
-invariant-loop-r l = Before (numbers_of l.s l.m) l.s.rows l.r l.before
-    × Filled (out_at (numbers_of l.s l.m).fate) (start_at (numbers_of l.s l.m) l.starts) l.r l.initial.from l.from l.n × Filled (out_at (numbers_of l.s l.m).fate) (end_at (numbers_of l.s l.m) l.starts)
-    l.r l.initial.upto l.upto l.n
-
-abbrev pub decreases-loop-r : goal.decreases-loop-r
-decreases-loop-r l = l.s.rows - l.r
+invariant-loop-r l = (l.before ≡ terms_to (numbers_of l.s l.m) l.r)
+    × Filled (out_at (numbers_of l.s l.m).fate) (start_at (numbers_of l.s l.m) l.starts) l.r l.initial.from l.from l.n
+    × Filled (out_at (numbers_of l.s l.m).fate) (end_at (numbers_of l.s l.m) l.starts) l.r l.initial.upto l.upto l.n

@@ -1,5 +1,4 @@
 -- `fixed_besides` is fixed_besides, of the row's own binding.
-use Prim.Native.Nat.{◌-◌}
 use native.Mathlib.Omega.{arith}
 use mathlib.Core.Path.{refl}
 use Rattle.folds.specs.Sized.{sized}
@@ -17,8 +16,7 @@ bounds-starts-r-2 c = omega (arith, c.requires.r_lt_rows.0, spans_long c.require
 pub overflow_sub-e : goal.overflow_sub-e
 overflow_sub-e c = omega (
   arith,
-  c.loop-j-test,
-  c.get_folded-n.ensures,
+  c.get-n.ensures,
   folds_in c.requires.r_lt_rows.0 c.requires.standing,
   stop_in c.requires.r_lt_rows.0 c.requires.standing,
 )
@@ -26,11 +24,10 @@ overflow_sub-e c = omega (
 pub fixed_term-sum-requires : goal.fixed_term-sum-requires
 fixed_term-sum-requires c = record {
   k_bound = (
-    omega (arith, binaries_in c.requires.r_lt_rows.0 c.requires.standing, c.get_binaries-k.ensures),
+    omega (arith, binaries_in c.requires.r_lt_rows.0 c.requires.standing, c.get-k.ensures),
     omega (
       arith,
-      c.loop-j-test,
-      c.get_folded-n.ensures,
+      c.get-n.ensures,
       folds_in c.requires.r_lt_rows.0 c.requires.standing,
       stop_in c.requires.r_lt_rows.0 c.requires.standing,
     ),
@@ -41,7 +38,7 @@ fixed_term-sum-requires c = record {
 }
 
 pub loop-j-preserved : goal.loop-j-preserved
-loop-j-preserved c = (omega arith, summed_more _ _ _ c.loop-j.invariant.1 (omega arith) refl refl c.fixed_term-sum.ensures)
+loop-j-preserved c = summed_more _ _ _ c.loop-j.invariant (omega arith) refl refl c.fixed_term-sum.ensures
 
 pub returns : goal.returns
 returns c = search (besides_end, sized, rules)

@@ -1,11 +1,7 @@
 -- `fixed_besides` is fixed_besides, of the row's own binding.
-use Prim.Native.Nat.{◌-◌, ◌≤◌}
 use Rattle.space.specs.Store.{floats_of, numbers_of}
 use Rattle.folds.specs.Besides.{listed, Summed}
 use Rattle.folds.proofs.besides.fixed_besides.Given as goal
 
 abbrev pub invariant-loop-j : goal.invariant-loop-j
-invariant-loop-j l = (l.j ≤ l.n) × Summed l.starts l.s l.r (listed l.a l.k (numbers_of l.s l.m).binary) (floats_of l.s l.w) (numbers_of l.s l.m) l.j l.sum
-
-abbrev pub decreases-loop-j : goal.decreases-loop-j
-decreases-loop-j l = l.n - l.j
+invariant-loop-j l = Summed l.starts l.s l.r (listed l.a l.k (numbers_of l.s l.m).binary) (floats_of l.s l.w) (numbers_of l.s l.m) l.j l.sum

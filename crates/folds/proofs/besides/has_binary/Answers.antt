@@ -12,8 +12,8 @@ pub bounds-starts-r : goal.bounds-starts-r
 bounds-starts-r c = omega (arith, c.requires.r_lt_rows.0, spans_long c.requires.r_lt_rows.0 c.requires.standing_n.standing)
 
 pub has_among-requires : goal.has_among-requires
-has_among-requires c = (omega (arith, binaries_in c.requires.r_lt_rows.0 c.requires.standing_n.standing, c.get_binaries-k.ensures), search rules)
+has_among-requires c = (omega (arith, binaries_in c.requires.r_lt_rows.0 c.requires.standing_n.standing, c.get.ensures), search rules)
 
 pub returns : goal.returns
 returns c = has_binary_end (numbers_of c.args.s c.args.m.now) c.args.v c.requires.r_lt_rows.0
-    (binary_length _ _ c.requires.r_lt_rows.1) refl c.get_binaries-k.ensures c.has_among.ensures
+    (binary_length _ _ c.requires.r_lt_rows.1) refl c.get.ensures c.has_among.ensures

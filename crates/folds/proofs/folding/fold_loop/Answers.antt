@@ -3,14 +3,14 @@ use Rattle.folds.specs.FoldLoop.{turned_none, turn_at, turned_more, turned_end}
 use borrow.Author.Rules.{rules}
 use Rattle.folds.proofs.folding.fold_loop.Goals as goal
 
-pub loop-left-init : goal.loop-left-init
-loop-left-init c = search turned_none
+pub loop-turn-init : goal.loop-turn-init
+loop-turn-init c = search turned_none
 
 pub fold_step-at-requires : goal.fold_step-at-requires
 fold_step-at-requires c = search (turn_at, rules)
 
-pub loop-left-preserved : goal.loop-left-preserved
-loop-left-preserved c = search (turned_more, rules)
+pub loop-turn-preserved : goal.loop-turn-preserved
+loop-turn-preserved c = search (turned_more, rules)
 
 pub returns : goal.returns
 returns c = search (turned_end, rules)

@@ -15,14 +15,14 @@ bounds-starts-r-2 c = omega (arith, c.requires.r_lt_rows.0, spans_long c.require
 pub overflow_add-a : goal.overflow_add-a
 overflow_add-a c = omega (arith, c.requires.at_bound, live_in c.requires.r_lt_rows.0 c.requires.standing)
 
-pub get_var-v-requires : goal.get_var-v-requires
-get_var-v-requires c = (omega (arith, c.requires.at_bound, live_in c.requires.r_lt_rows.0 c.requires.standing), search rules)
+pub get-v-requires : goal.get-v-requires
+get-v-requires c = (omega (arith, c.requires.at_bound, live_in c.requires.r_lt_rows.0 c.requires.standing), search rules)
 
 pub overflow_add-a-2 : goal.overflow_add-a-2
 overflow_add-a-2 c = omega (arith, c.requires.at_bound, live_in c.requires.r_lt_rows.0 c.requires.standing)
 
-pub get_coeff-x-requires : goal.get_coeff-x-requires
-get_coeff-x-requires c = (omega (arith, c.requires.at_bound, live_in c.requires.r_lt_rows.0 c.requires.standing), search rules)
+pub get-x-requires : goal.get-x-requires
+get-x-requires c = (omega (arith, c.requires.at_bound, live_in c.requires.r_lt_rows.0 c.requires.standing), search rules)
 
 pub swap_remove-requires : goal.swap_remove-requires
 swap_remove-requires c = search live_in
@@ -33,8 +33,8 @@ returns-then-x c = search (fold_zero, sized)
 pub fixed-requires : goal.fixed-requires
 fixed-requires c = search var_in
 
-pub get_elo-requires : goal.get_elo-requires
-get_elo-requires c = search var_in
+pub get-requires : goal.get-requires
+get-requires c = search var_in
 
 pub swap_remove-requires-then-fixed : goal.swap_remove-requires-then-fixed
 swap_remove-requires-then-fixed c = search live_in
@@ -53,8 +53,8 @@ shift_sides-requires c = search rules
 
 pub returns-then-fixed : goal.returns-then-fixed
 returns-then-fixed c = fold_fixed_term _ _ _ _ c.requires.r_lt_rows.0 (sized _ _ _ c.requires.r_lt_rows.1 c.requires.r_lt_rows.2) refl c.requires.at_bound
-    c.get_var-v.ensures c.get_coeff-x.ensures c.if-x.false
-    c.fixed.ensures c.if-fixed.true c.get_elo.ensures c.swap_remove-then-fixed.ensures.w_after
+    c.get-v.ensures c.get-x.ensures c.if-x.false
+    c.fixed.ensures c.if-fixed.true c.get.ensures c.swap_remove-then-fixed.ensures.w_after
     c.swap_remove-then-fixed.ensures.m_after (sized _ _ _ (omega arith) (omega arith)) refl c.push_folded.ensures.w_after
     c.push_folded.ensures.m_after (sized _ _ _ (omega arith) (omega arith)) c.shift_sides.ensures
 

@@ -3,5 +3,5 @@ use Rattle.view.specs.Known.{written_spans}
 use Rattle.folds.specs.Scan.{scan_turns}
 use Rattle.folds.proofs.scan.fold_row.Goals as goal
 
-pub returns : goal.returns
-returns c = search (scan_turns, written_spans)
+pub returns-else-folds_any : goal.returns-else-folds_any
+returns-else-folds_any c = search (scan_turns, written_spans)

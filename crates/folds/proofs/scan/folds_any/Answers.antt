@@ -1,5 +1,4 @@
 -- `folds_any`: whether some term of a row leaves.
-use Prim.Native.Nat.{◌-◌}
 use native.Mathlib.Omega.{arith}
 use mathlib.Core.Path.{refl}
 use Rattle.folds.specs.FoldStep.{spans_long, live_in, var_in}
@@ -14,11 +13,11 @@ pub loop-i-init : goal.loop-i-init
 loop-i-init c = stay_start
 
 pub overflow_add-a : goal.overflow_add-a
-overflow_add-a c = omega (arith, live_in c.requires.r_lt_rows.0 c.requires.standing, c.get_len-n.ensures, c.loop-i-test.true)
+overflow_add-a c = omega (arith, live_in c.requires.r_lt_rows.0 c.requires.standing, c.get-n.ensures)
 
 pub leaves-requires : goal.leaves-requires
 leaves-requires c = (
-  omega (arith, live_in c.requires.r_lt_rows.0 c.requires.standing, c.get_len-n.ensures, c.loop-i-test.true),
+  omega (arith, live_in c.requires.r_lt_rows.0 c.requires.standing, c.get-n.ensures),
   search rules,
   search rules,
   var_in c.requires.r_lt_rows.0 c.requires.standing _ (omega arith) refl,

@@ -1,5 +1,4 @@
 -- `write_terms`: the input's terms from place a up to e, all live.
-use Prim.Native.Nat.{◌-◌}
 use native.Mathlib.Omega.{arith}
 use mathlib.Core.Path.{refl}
 use Rattle.folds.specs.Sized.{sized}
@@ -11,14 +10,7 @@ pub loop-i-init : goal.loop-i-init
 loop-i-init c = search (copied_none, rules)
 
 pub loop-i-preserved : goal.loop-i-preserved
-loop-i-preserved c = (
-  search rules,
-  search rules,
-  omega arith,
-  omega arith,
-  copied_more c.loop-i.invariant.4 (sized _ _ _ (omega arith) (omega arith)) c.loop-i.invariant.2 (omega arith) refl
-      c.put_var.ensures refl c.put_coeff.ensures,
-)
+loop-i-preserved c = copied_more c.loop-i.invariant (sized _ _ _ (omega arith) (omega arith)) (omega arith) (omega arith) refl c.put.ensures refl c.put-in-loop-i.ensures
 
 pub returns : goal.returns
 returns c = search (copied_end, rules)

@@ -1,5 +1,4 @@
 -- `fix_all` is fix_all.
-use Prim.Native.Nat.{◌-◌}
 use mathlib.Core.Path.{◌≡◌}
 use lib.ListN.{length}
 use Rattle.space.specs.Store.{floats_of, numbers_of}
@@ -10,7 +9,4 @@ use Rattle.forcing.proofs.fixing.fix_all.Given as goal
 
 abbrev pub invariant-loop-i : goal.invariant-loop-i
 invariant-loop-i l = (length l.w ≡ length l.initial.w) × (length l.m ≡ length l.initial.m)
-    × Turning (Marks l.starts l.adj) l.s (floats_of l.s l.initial.w) (numbers_of l.s l.initial.m) (floats_of l.s l.w) (numbers_of l.s l.m) (Fixing l.r l.minCorner l.i)
-
-abbrev pub decreases-loop-i : goal.decreases-loop-i
-decreases-loop-i l = l.n - l.i
+    × Turning (Marks l.lists) l.s (floats_of l.s l.initial.w) (numbers_of l.s l.initial.m) (floats_of l.s l.w) (numbers_of l.s l.m) (Fixing l.r l.minCorner l.i)

@@ -3,5 +3,5 @@ use Rattle.forcing.specs.Fixing.{fix_corner}
 use Rattle.forcing.proofs.fixing.fix_term.Goals as goal
 
 pub returns : goal.returns
-returns c = fix_corner _ _ _ c.get_elo-lo.ensures c.get_ehi-hi.ensures
-    c.corner-x.ensures c.fix.ensures
+returns c = fix_corner _ _ _ c.get-lo.ensures c.get-hi.ensures
+    c.corner-x.ensures c.fix.ensures.acts

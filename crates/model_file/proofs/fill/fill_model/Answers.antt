@@ -1,27 +1,30 @@
 -- A file that is ready fills every slice; neither part of it can be refused any more.
-use mathlib.Core.Path.{ap, ◌∙◌}
-use Rattle.model_file.specs.Places.{settings_got}
-use Rattle.model_file.specs.Skips.{next_got}
-use Rattle.model_file.specs.Answers.{ready_unsettled, ready_vars, ready_no, ready_rows, ready_terms, ready_end}
+use Rattle.model_file.specs.Format.{variable}
+use Rattle.model_file.specs.Fills.{put_var, from_zero}
+use Rattle.model_file.specs.Answers.{ready_unsettled, var_places, ready_no, row_places, terms_fit, ready_end}
 use Rattle.model_file.proofs.fill.fill_model.Goals as goal
 
-pub returns-in-Refused : goal.returns-in-Refused
-returns-in-Refused c = absurd (ready_unsettled c.requires (c.read_settings.ensures ∙ ap (settings_got _) c.in-Refused.is))
+pub returns-in_err-settings-clause-ok : goal.returns-in_err-settings-clause-ok
+returns-in_err-settings-clause-ok c = absurd (ready_unsettled c.requires c.in_err-settings.ensures)
 
-pub fill_variables-requires : goal.fill_variables-requires
-fill_variables-requires c = ready_vars c.requires (c.read_settings.ensures
-    ∙ ap (settings_got _) c.in-Got.is)
+pub returns-in_err-settings-clause-filled : goal.returns-in_err-settings-clause-filled
+returns-in_err-settings-clause-filled c = absurd (ready_unsettled c.requires c.in_err-settings.ensures)
 
-pub returns-in-Refused-fill_variables : goal.returns-in-Refused-fill_variables
-returns-in-Refused-fill_variables c = absurd (ready_no c.requires (c.read_settings.ensures ∙ ap (settings_got _) c.in-Got.is)
-    (c.fill_variables.ensures.place ∙ ap (next_got _) c.in-Refused-fill_variables.is))
+pub fill-requires : goal.fill-requires
+fill-requires c = var_places c.requires c.in_ok-settings.ensures
 
-pub fill_rows-requires : goal.fill_rows-requires
-fill_rows-requires c = let p = c.read_settings.ensures ∙ ap (settings_got _) c.in-Got.is in
-    let q = c.fill_variables.ensures.place ∙ ap (next_got _) c.in-At.is in
-    record { n_in_bounds = ready_rows c.requires p q; within = ready_terms c.requires p q }
+pub returns-in_err-fill-clause-ok : goal.returns-in_err-fill-clause-ok
+returns-in_err-fill-clause-ok c = absurd (ready_no c.requires c.in_ok-settings.ensures (from_zero variable put_var _ c.in_err-fill.ensures.filled).place)
 
-pub returns : goal.returns
-returns c = ready_end c.requires (c.read_settings.ensures ∙ ap (settings_got _) c.in-Got.is)
-    (c.fill_variables.ensures.place ∙ ap (next_got _) c.in-At.is) c.fill_variables.ensures.columns
-    c.fill_rows.ensures
+pub returns-in_err-fill-clause-filled : goal.returns-in_err-fill-clause-filled
+returns-in_err-fill-clause-filled c = absurd (ready_no c.requires c.in_ok-settings.ensures (from_zero variable put_var _ c.in_err-fill.ensures.filled).place)
+
+pub fill_rows-requires-clause-places : goal.fill_rows-requires-clause-places
+fill_rows-requires-clause-places c = let v = from_zero variable put_var _ c.in_ok-fill.ensures.filled in row_places c.requires c.in_ok-settings.ensures v.place v.columns
+
+pub fill_rows-requires-clause-room : goal.fill_rows-requires-clause-room
+fill_rows-requires-clause-room c = let v = from_zero variable put_var _ c.in_ok-fill.ensures.filled in terms_fit c.requires c.in_ok-settings.ensures v.place v.columns
+
+pub returns-clause-filled : goal.returns-clause-filled
+returns-clause-filled c = let v = from_zero variable put_var _ c.in_ok-fill.ensures.filled in
+    ready_end c.requires c.in_ok-settings.ensures v.place v.columns c.fill_rows.ensures.filled

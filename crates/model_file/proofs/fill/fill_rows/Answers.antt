@@ -1,55 +1,22 @@
--- The rows that are left give the whole. There is room for the terms of those that are left.
-use native.Mathlib.Omega.{arith}
-use Prim.Native.Nat.{◌-◌}
-use mathlib.Core.Path.{ap, ◌∙◌, subst}
-use lib.ListN.{length, length-set}
-use Rattle.model_file.specs.Places.{number_got}
-use Rattle.model_file.specs.Skips.{RowWithin}
-use Rattle.model_file.specs.Fills.{rows_room_lem, rows_filling, rows_filling_turn, rows_filling_bad, rows_filling_end}
-use borrow.Author.Rules.{rules}
+-- The rows that are left give the whole, and none of them is refused.
+use Rattle.model_file.specs.Reading.{same_then}
+use Rattle.model_file.specs.Fills.{rows_filling_room, rows_filling_turn, rows_filling_bad, rows_filling_end}
 use Rattle.model_file.proofs.fill.fill_rows.Goals as goal
 
-pub loop-r-init : goal.loop-r-init
-loop-r-init c = search rows_filling
+pub fill_row-requires-clause-room : goal.fill_row-requires-clause-room
+fill_row-requires-clause-room c = rows_filling_room c.loop-r.invariant.1 c.loop-r-test.true
 
-pub fill_row-requires : goal.fill_row-requires
-fill_row-requires c = record {
-  t_bound = omega (
-    arith,
-    c.loop-r.invariant.5.small,
-    c.loop-r.invariant,
-    c.loop-r-test.true,
-    c.requires.n_in_bounds,
-    length-set c.args.starts.now 0 0,
-  );
-  within = (
-    rows_room_lem _ _ _ (omega arith) c.loop-r.invariant.1 c.loop-r.invariant.5.indices,
-    rows_room_lem _ _ _ (omega arith) c.loop-r.invariant.2 c.loop-r.invariant.5.coeffs,
-  );
-}
+pub returns-in_err-t-clause-ok : goal.returns-in_err-t-clause-ok
+returns-in_err-t-clause-ok c = absurd (rows_filling_bad c.loop-r.invariant.1 c.loop-r-test.true c.in_err-t.ensures.read)
 
-pub shape_of-starts-in-Refused : goal.shape_of-starts-in-Refused
-shape_of-starts-in-Refused c = c.fill_row.auto.starts ∙ c.loop-r.invariant.0
-    ∙ length-set c.args.starts.now 0 0
-
-pub returns-in-Refused : goal.returns-in-Refused
-returns-in-Refused c = rows_filling_bad c.loop-r.invariant.5 c.loop-r-test.true (c.fill_row.ensures.place.is
-    ∙ ap (number_got _) c.in-Refused.is) c.fill_row.ensures.columns
+pub returns-in_err-t-clause-filled : goal.returns-in_err-t-clause-filled
+returns-in_err-t-clause-filled c = absurd (rows_filling_bad c.loop-r.invariant.1 c.loop-r-test.true c.in_err-t.ensures.read)
 
 pub loop-r-preserved : goal.loop-r-preserved
 loop-r-preserved c = (
-  search rules,
-  search rules,
-  search rules,
-  search rules,
-  search rules,
-  rows_filling_turn c.loop-r.invariant.5 c.loop-r-test.true
-      (subst RowWithin c.in-Got.is c.fill_row.ensures.place.within) (c.fill_row.ensures.place.is
-      ∙ ap (number_got _) c.in-Got.is) c.fill_row.ensures.columns,
+  same_then c.loop-r.invariant.0 c.fill_row.ensures.same,
+  rows_filling_turn c.loop-r.invariant.1 c.loop-r-test.true c.in_ok-t.ensures.within c.in_ok-t.ensures.read c.fill_row.ensures.filled,
 )
 
-pub shape_of-starts : goal.shape_of-starts
-shape_of-starts c = c.loop-r.invariant.0 ∙ length-set c.args.starts.now 0 0
-
-pub returns : goal.returns
-returns c = search rows_filling_end
+pub returns-clause-filled : goal.returns-clause-filled
+returns-clause-filled c = rows_filling_end c.loop-r.invariant.1 c.loop-r-test.false

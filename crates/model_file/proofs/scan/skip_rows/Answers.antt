@@ -1,20 +1,18 @@
 -- The rows that are left give the whole; the terms so far stay within the limit.
-use mathlib.Core.Path.{ap, ◌∙◌, subst}
-use Rattle.model_file.specs.Format.{rows}
-use Rattle.model_file.specs.Places.{number_got}
-use Rattle.model_file.specs.Skips.{RowWithin, rows_turn, rows_bad, rows_end}
+use Rattle.std.proofs.Common.{arith, ◌∙◌}
+use native.Mathlib.Nat.{sub-zero}
+use Rattle.model_file.specs.Skips.{rows_next, rows_bad, rows_end}
+use Rattle.model_file.proofs.Exits.{failed}
 use Rattle.model_file.proofs.scan.skip_rows.Goals as goal
 
-pub returns-in-Refused : goal.returns-in-Refused
-returns-in-Refused c = c.loop-left.invariant.1 ∙ rows_bad _ _ _ c.loop-left-test.true
-    (c.skip_row.ensures.is ∙ ap (number_got _) c.in-Refused.is)
+pub loop-init : goal.loop-init
+loop-init c = (omega arith, rw sub-zero)
 
-pub loop-left-preserved : goal.loop-left-preserved
-loop-left-preserved c = (
-  subst RowWithin c.in-Got.is c.skip_row.ensures.within,
-  c.loop-left.invariant.1 ∙ rows_turn _ _ _ c.loop-left-test.true
-      (c.skip_row.ensures.is ∙ ap (number_got _) c.in-Got.is),
-)
+pub returns-in_err-terms : goal.returns-in_err-terms
+returns-in_err-terms c = failed _ _ _ c.from_residual.ensures.1 (c.loop.invariant.1 ∙ rows_bad _ _ _ (omega arith) c.in_err-terms.ensures.read)
+
+pub loop-preserved : goal.loop-preserved
+loop-preserved c = (c.in_ok-terms.ensures.within, c.loop.invariant.1 ∙ rows_next _ _ _ _ c.loop-test.true c.in_ok-terms.ensures.read)
 
 pub returns : goal.returns
-returns c = c.loop-left.invariant.1 ∙ rows_end _ _ _ c.loop-left-test.false
+returns c = c.loop.invariant.1 ∙ rows_end _ _ _ (omega arith)

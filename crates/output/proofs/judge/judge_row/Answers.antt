@@ -14,12 +14,12 @@ returns-then-is_trivial c = judge_trivial _ _ _ _ _ (fate_length _ _ c.requires.
 
 pub returns-then-alive-ne1 : goal.returns-then-alive-ne1
 returns-then-alive-ne1 c = judge_gone _ _ _ _ _ (fate_length _ _ c.requires.r_lt_rows.2) c.requires.r_lt_rows.0 written_gives c.is_trivial.ensures c.if-is_trivial.false
-    c.get_alive-alive.ensures c.if-alive-ne1.true c.put_fate-then-alive-ne1.ensures
+    c.get-alive.ensures c.if-alive-ne1.true c.put_fate-then-alive-ne1.ensures
 
 pub returns-then-touched-ne1 : goal.returns-then-touched-ne1
 returns-then-touched-ne1 c = judge_untouched _ _ _ _ _ (fate_length _ _ c.requires.r_lt_rows.2) c.requires.r_lt_rows.0 written_gives
-    c.is_trivial.ensures c.if-is_trivial.false c.get_alive-alive.ensures c.if-alive-ne1.false
-    c.get_touched-touched.ensures c.if-touched-ne1.true c.put_fate-then-touched-ne1.ensures
+    c.is_trivial.ensures c.if-is_trivial.false c.get-alive.ensures c.if-alive-ne1.false
+    c.get-touched.ensures c.if-touched-ne1.true c.put_fate-then-touched-ne1.ensures
 
 pub judge_touched-requires : goal.judge_touched-requires
 judge_touched-requires c = record { r_lt_rows = search rules; tells_trivial = told-as c.is_trivial.ensures c.if-is_trivial.false; ready = search rules }

@@ -1,14 +1,12 @@
 -- `judge_rows`: before row r the rows below it are judged.
 use borrow.Author.Rules.{rules}
-use Prim.Native.Nat.{◌-◌}
-use native.Mathlib.Omega.{arith}
 use mathlib.Core.Path.{refl}
 use Rattle.emit.specs.Judging.{judged_start, judged_turn, judged_ready}
 use Rattle.output.specs.Judged.{judged-end}
 use Rattle.output.proofs.judge.judge_rows.Goals as goal
 
 pub loop-r-init : goal.loop-r-init
-loop-r-init c = (refl, refl, omega arith, judged_start)
+loop-r-init c = (refl, refl, judged_start)
 
 pub judge_row-requires : goal.judge_row-requires
 judge_row-requires c = search (judged_ready, rules)

@@ -1,5 +1,6 @@
 -- `write_results`: the rows are judged, and the lists written by their fates.
 use native.Mathlib.Omega.{arith}
+use borrow.Author.Rules.{rules}
 use mathlib.Core.Path.{◌∙◌}
 use Rattle.output.specs.Answered.{lowers, uppers, sides, spanned-judged, indexed-judged, writes-out}
 use Rattle.output.proofs.lists.write_results.Goals as goal
@@ -25,4 +26,4 @@ pub shape_of-m : goal.shape_of-m
 shape_of-m c = c.write_lists.auto.m ∙ c.judge_rows.auto.m
 
 pub returns : goal.returns
-returns c = writes-out c.judge_rows.ensures c.write_lists.ensures
+returns c = record { same = search rules; writes = writes-out c.judge_rows.ensures c.write_lists.ensures.lists }

@@ -1,24 +1,18 @@
 -- `tell`, by the answer.
+use mathlib.Core.Path.{◌≡◌}
+use Rattle.presolve.specs.declared.Presolved.TheVariants.{Infeasible, Model}
 use Rattle.presolve_c.specs.Steps.{told_refused, told_infeasible, told_model}
 use Rattle.presolve_c.proofs.tell.tell.Goals as goal
 
-pub put_counts-requires : goal.put_counts-requires
-put_counts-requires c = c.requires
+pub returns-in-Err : goal.returns-in-Err
+returns-in-Err c = told_refused c.in-Err.is c.from.ensures
 
-pub put_model-requires : goal.put_model-requires
-put_model-requires c = c.requires
+pub returns-in-Ok-Infeasible : goal.returns-in-Ok-Infeasible
+returns-in-Ok-Infeasible c =
+    let q : c.in-Ok-Infeasible.field-0 ≡ Infeasible c.in-Ok-Infeasible.k = rw c.in-Ok-Infeasible.is at c.in-Ok-Infeasible.field-0-is in
+    told_infeasible c.in-Ok-Infeasible.is q c.put_counts.ensures
 
-pub returns-in-Refused : goal.returns-in-Refused
-returns-in-Refused c = told_refused c.in-Refused.is
-
-pub shape_of-answer-in-Infeasible : goal.shape_of-answer-in-Infeasible
-shape_of-answer-in-Infeasible c = c.answer-1.given
-
-pub returns-in-Infeasible : goal.returns-in-Infeasible
-returns-in-Infeasible c = told_infeasible c.in-Infeasible.is c.put_counts.ensures
-
-pub shape_of-answer-in-Presolved : goal.shape_of-answer-in-Presolved
-shape_of-answer-in-Presolved c = c.answer-in-Presolved-1.given
-
-pub returns-in-Presolved : goal.returns-in-Presolved
-returns-in-Presolved c = told_model c.in-Presolved.is c.put_model.ensures
+pub returns-in-Ok-Model : goal.returns-in-Ok-Model
+returns-in-Ok-Model c =
+    let q : c.in-Ok-Model.field-0 ≡ Model c.in-Ok-Model.x = rw c.in-Ok-Model.is at c.in-Ok-Model.field-0-is in
+    told_model c.in-Ok-Model.is q c.put_model.ensures

@@ -1,18 +1,19 @@
--- The lines that are left give the whole; the count is within both lists.
-use mathlib.Core.Path.{ap, ◌∙◌}
-use Prim.Native.Nat.{◌-◌, min}
-use Rattle.print_result.specs.Text.{from_to, bound_at, bound_lines}
-use Rattle.print_result.specs.TextLaws.{first_line, no_line}
-use Rattle.print_result.specs.Page.{left_less, left_none, recast}
-use borrow.Author.Rules.{rules}
+-- One line more, until the lists end.
+use Rattle.std.proofs.Common.{arith, subst, ℕ, length, ◌≡◌}
+use Prim.Native.Nat.{min}
+use Rattle.print_result.specs.Text.{from_to, each, bound_at, bound_lines}
+use Rattle.print_result.specs.TextLaws.{more_lines}
 use Rattle.print_result.proofs.lines.put_bounds.Goals as goal
 
+pub loop-v-init : goal.loop-v-init
+unfolding from_to each
+loop-v-init g c = g.met.S.Sink.none _
+
 pub loop-v-preserved : goal.loop-v-preserved
-unfolding bound_lines
-loop-v-preserved c = (search rules, search (left_less, first_line))
+loop-v-preserved g c = rw (more_lines (bound_at c.args.lower.now c.args.upper.now) c.loop-v.v) (g.met.S.Sink.joined _ _ _ _ _ c.loop-v.invariant c.put_bound.ensures)
 
 pub returns : goal.returns
 unfolding bound_lines
-returns c = recast (left_none c.loop-v.invariant.1 (no_line _ _ _ c.loop-v-test.false))
-    (ap (from_to (bound_at c.args.lower.now c.args.upper.now) 0) (c.least-n.ensures.is
-    ∙ ap (min c.args.vars) c.least.ensures.is))
+returns g c =
+    let e : c.loop-v.v ≡ min (length c.args.lower.now) (min (length c.args.lower.now) (length c.args.upper.now)) = omega arith in
+    subst (λ (n : ℕ). g.S.Sink.wrote c.args.out.now (from_to (bound_at c.args.lower.now c.args.upper.now) 0 n) c.loop-v.out) e c.loop-v.invariant

@@ -1,12 +1,6 @@
--- The bytes that are left give the whole.
-use mathlib.Core.Path.{◌≡◌}
-use Prim.Native.Nat.{◌-◌}
-use lib.ListN.{length, drop}
-use Rattle.print_result.specs.Page.{page, pour, Left}
+-- The bytes so far are written.
+use Rattle.std.proofs.Common.{take}
 use Rattle.print_result.proofs.put.put_text.Given as goal
 
-abbrev pub invariant-loop-i : goal.invariant-loop-i
-invariant-loop-i l = (length l.out ≡ length l.initial.out) × Left l.cap (drop l.i l.text) (page l.out l.at) (pour l.cap l.text (page l.initial.out l.initial.at))
-
-abbrev pub decreases-loop-i : goal.decreases-loop-i
-decreases-loop-i l = length l.text - l.i
+abbrev pub invariant-loop-byte : goal.invariant-loop-byte
+invariant-loop-byte g l = g.S.Sink.wrote l.initial.out (take l.byte-index l.text) l.out

@@ -1,15 +1,7 @@
--- The rows that are left give the whole; the count is within every list.
-use mathlib.Core.Path.{◌≡◌, ap}
-use Prim.Native.Nat.{◌-◌}
-use lib.ListN.{length}
+-- The lines so far are written.
 use Rattle.print_result.specs.Text.{from_to, row_at}
-use Rattle.print_result.specs.Page.{page, pour, Left}
 use Rattle.print_result.proofs.rows.put_rows.Given as goal
 
 abbrev pub invariant-loop-i : goal.invariant-loop-i
-invariant-loop-i l = (length l.out ≡ length l.initial.out)
-    × Left l.cap (from_to (row_at l.row l.rewritten l.rhs l.from l.upto l.term_index l.term_coeff) l.i l.n) (page l.out l.at)
-    (pour l.cap (from_to (row_at l.row l.rewritten l.rhs l.from l.upto l.term_index l.term_coeff) l.initial.i l.n) (page l.initial.out l.initial.at))
-
-abbrev pub decreases-loop-i : goal.decreases-loop-i
-decreases-loop-i l = l.n - l.i
+invariant-loop-i g l = g.S.Sink.wrote l.initial.out
+    (from_to (row_at l.rows.row.now l.rows.rewritten.now l.rows.rhs.now l.rows.from.now l.rows.upto.now l.terms.index.now l.terms.coeff.now) 0 l.i) l.out

@@ -1,14 +1,7 @@
--- The lines that are left give the whole; the end is within both parts.
-use mathlib.Core.Path.{◌≡◌, ap}
-use Prim.Native.Nat.{◌-◌}
-use lib.ListN.{length}
+-- The lines so far are written.
+use Rattle.std.proofs.Common.{length}
 use Rattle.print_result.specs.Text.{from_to, term_at}
-use Rattle.print_result.specs.Page.{page, pour, Left}
 use Rattle.print_result.proofs.rows.put_terms.Given as goal
 
-abbrev pub invariant-loop-i : goal.invariant-loop-i
-invariant-loop-i l = (length l.out ≡ length l.initial.out) × Left l.cap (from_to (term_at l.vars l.coeffs) l.i l.e) (page l.out l.at)
-    (pour l.cap (from_to (term_at l.vars l.coeffs) l.initial.i l.e) (page l.initial.out l.initial.at))
-
-abbrev pub decreases-loop-i : goal.decreases-loop-i
-decreases-loop-i l = l.e - l.i
+abbrev pub invariant-loop-v : goal.invariant-loop-v
+invariant-loop-v g l = g.S.Sink.wrote l.initial.out (from_to (term_at l.vars l.coeffs) 0 (length l.yielded)) l.out

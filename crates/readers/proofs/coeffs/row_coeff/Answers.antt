@@ -1,5 +1,4 @@
 -- `row_coeff`: the walk goes on while the rest of the row has the variable.
-use Prim.Native.Nat.{◌-◌}
 use native.Mathlib.Omega.{arith}
 use Rattle.readers.specs.Coeffs.{term_long, seek_start, seek_in, seek_row, seek_fits, seek_place, seek_turn, seek_end}
 use borrow.Author.Rules.{rules}
@@ -15,18 +14,18 @@ pub loop-s-init : goal.loop-s-init
 loop-s-init c = search seek_start
 
 pub place-i-requires : goal.place-i-requires
-place-i-requires c = seek_fits c.requires.r_lt_rows.0 c.requires.r_lt_rows.3 c.loop-s.invariant c.get_len-n.ensures
+place-i-requires c = seek_fits c.requires.r_lt_rows.0 c.requires.r_lt_rows.3 c.loop-s.invariant c.get-n.ensures
 
-pub get_var-t-requires : goal.get_var-t-requires
-get_var-t-requires c = search seek_place
+pub get-requires : goal.get-requires
+get-requires c = search (seek_place, rules)
 
-pub get_coeff-x-requires : goal.get_coeff-x-requires
-get_coeff-x-requires c = search seek_place
+pub get-x-requires : goal.get-x-requires
+get-x-requires c = search (seek_place, rules)
 
 pub overflow_add-k : goal.overflow_add-k
 overflow_add-k c = omega (
   arith,
-  seek_fits c.requires.r_lt_rows.0 c.requires.r_lt_rows.3 c.loop-s.invariant c.get_len-n.ensures,
+  seek_fits c.requires.r_lt_rows.0 c.requires.r_lt_rows.3 c.loop-s.invariant c.get-n.ensures,
   (seek_row c.requires.r_lt_rows.0 c.requires.r_lt_rows.3 c.loop-s.invariant).last,
   (seek_row c.requires.r_lt_rows.0 c.requires.r_lt_rows.3 c.loop-s.invariant).small,
 )
@@ -36,9 +35,9 @@ loop-s-smaller c = omega (arith, seek_in c.requires.r_lt_rows.0 c.requires.r_lt_
 
 pub loop-s-preserved : goal.loop-s-preserved
 loop-s-preserved c = seek_turn c.requires.r_lt_rows.0 c.requires.r_lt_rows.3 c.loop-s.invariant
-    c.get_len-n.ensures c.place-i.ensures c.get_var-t.ensures c.if-t-v.false
+    c.get-n.ensures c.place-i.ensures c.get.ensures c.if-get-v.false
 
 pub returns : goal.returns
 returns c = seek_end c.requires.r_lt_rows.0 c.requires.r_lt_rows.3 c.loop-s.invariant
-    c.get_len-n.ensures c.place-i.ensures c.get_var-t.ensures
-    c.if-t-v.true c.get_coeff-x.ensures
+    c.get-n.ensures c.place-i.ensures c.get.ensures
+    c.if-get-v.true c.get-x.ensures

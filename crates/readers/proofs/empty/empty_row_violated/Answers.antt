@@ -4,24 +4,29 @@ use Rattle.readers.specs.Empty.{span_ready, empty_true, empty_judged}
 use borrow.Author.Rules.{rules}
 use Rattle.readers.proofs.empty.empty_row_violated.Goals as goal
 
-pub bounds-starts-r : goal.bounds-starts-r
-bounds-starts-r c = omega (arith, (span_ready c.requires.ready_f c.requires.r_lt_rows.0).starts)
+pub verdict-requires : goal.verdict-requires
+verdict-requires c = (
+  omega (arith, (span_ready c.requires.ready_f c.requires.r_lt_rows.0).starts),
+  (span_ready c.requires.ready_f c.requires.r_lt_rows.0).cmps,
+  (span_ready c.requires.ready_f c.requires.r_lt_rows.0).rhss,
+  (span_ready c.requires.ready_f c.requires.r_lt_rows.0).rise,
+)
 
-pub bounds-starts-r-2 : goal.bounds-starts-r-2
-bounds-starts-r-2 c = omega (arith, (span_ready c.requires.ready_f c.requires.r_lt_rows.0).starts)
+pub bounds-rows-r : goal.bounds-rows-r
+bounds-rows-r c = omega (arith, (span_ready c.requires.ready_f c.requires.r_lt_rows.0).starts)
 
-pub bounds-cmp-r : goal.bounds-cmp-r
-bounds-cmp-r c = (span_ready c.requires.ready_f c.requires.r_lt_rows.0).cmps
+pub bounds-rows-r-2 : goal.bounds-rows-r-2
+bounds-rows-r-2 c = omega (arith, (span_ready c.requires.ready_f c.requires.r_lt_rows.0).starts)
 
-pub bounds-rhs-r : goal.bounds-rhs-r
-bounds-rhs-r c = (span_ready c.requires.ready_f c.requires.r_lt_rows.0).rhss
+pub bounds-rows-r-3 : goal.bounds-rows-r-3
+bounds-rows-r-3 c = (span_ready c.requires.ready_f c.requires.r_lt_rows.0).rhss
 
-pub overflow_sub-e : goal.overflow_sub-e
-overflow_sub-e c = omega (arith, (span_ready c.requires.ready_f c.requires.r_lt_rows.0).rise)
+pub bounds-rows-r-4 : goal.bounds-rows-r-4
+bounds-rows-r-4 c = (span_ready c.requires.ready_f c.requires.r_lt_rows.0).cmps
 
-pub returns-then-says_true : goal.returns-then-says_true
-returns-then-says_true c = empty_true c.requires.r_lt_rows.0 c.trivial_row_verdict.result
-    c.trivial_row_verdict.ensures c.says_true.ensures c.if-says_true.true
+pub returns-then-unwrap_or : goal.returns-then-unwrap_or
+returns-then-unwrap_or c = empty_true c.requires.r_lt_rows.0 c.verdict.result
+    c.verdict.ensures c.unwrap_or.ensures c.if-unwrap_or.true
 
 pub fixed_sum-requires : goal.fixed_sum-requires
 fixed_sum-requires c = record {
@@ -35,6 +40,6 @@ fixed_sum-requires c = record {
 }
 
 pub returns : goal.returns
-returns c = empty_judged c.requires.r_lt_rows.0 c.trivial_row_verdict.result
-    c.trivial_row_verdict.ensures c.says_true.ensures _ _
-    c.if-says_true.false c.fixed_sum.ensures c.row_slack.ensures c.slack_violates.ensures
+returns c = empty_judged c.requires.r_lt_rows.0 c.verdict.result
+    c.verdict.ensures c.unwrap_or.ensures _ _
+    c.if-unwrap_or.false c.fixed_sum.ensures c.slack.ensures c.violates.ensures

@@ -1,5 +1,4 @@
 -- `fixed_sum`: what is left of the definition from the term looked at on gives the whole.
-use Prim.Native.Nat.{◌-◌}
 use native.Mathlib.Omega.{arith}
 use Rattle.readers.specs.Empty.{sum_start, sum_turn, sum_end}
 use borrow.Author.Rules.{rules}

@@ -8,5 +8,5 @@ returns-then-usual_bounds c = within_step _ _ _ _ _ c.requires.2 c.requires.3 (u
     (usual_upper _ c.usual_bounds.ensures c.if-usual_bounds.true) c.activity_step.ensures
 
 pub returns : goal.returns
-returns c = within_step _ _ _ _ _ c.requires.2 c.requires.3 c.bound_tol-low.ensures
-    c.bound_tol-high.ensures c.activity_step-2.ensures
+returns c = within_step _ _ _ _ _ c.requires.2 c.requires.3 c.bound_tol.ensures
+    c.bound_tol-2.ensures c.activity_step-2.ensures

@@ -3,7 +3,7 @@ use Rattle.readers.specs.Vars.{value_fixed, value_free}
 use Rattle.readers.proofs.vars.fixed_value.Goals as goal
 
 pub returns-then-fixed_at : goal.returns-then-fixed_at
-returns-then-fixed_at c = value_fixed _ c.get_elo-lo.ensures c.get_ehi-hi.ensures c.fixed_at.ensures c.if-fixed_at.true
+returns-then-fixed_at c = value_fixed _ c.get-lo.ensures c.get-hi.ensures c.fixed_at.ensures c.if-fixed_at.true
 
-pub returns : goal.returns
-returns c = value_free _ c.get_elo-lo.ensures c.get_ehi-hi.ensures c.fixed_at.ensures c.if-fixed_at.false
+pub returns-else-fixed_at : goal.returns-else-fixed_at
+returns-else-fixed_at c = value_free _ c.get-lo.ensures c.get-hi.ensures c.fixed_at.ensures c.if-fixed_at.false

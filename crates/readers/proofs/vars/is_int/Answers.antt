@@ -5,5 +5,5 @@ use Rattle.readers.proofs.vars.is_int.Goals as goal
 pub returns-then-s : goal.returns-then-s
 returns-then-s c = int_mip _ c.if-s.true c.is_int_domain.ensures
 
-pub returns : goal.returns
-returns c = int_lp _ c.if-s.false
+pub returns-else-s : goal.returns-else-s
+returns-else-s c = int_lp _ c.if-s.false

@@ -1,8 +1,7 @@
 -- `starts_wrong` computes its definition.
-use Rattle.definition.specs.Model.{from, upto}
-use Rattle.definition.specs.Refusal.{start_falls, starts_wrong}
+use Rattle.refuse.specs.Rows.{starts_are}
+use Rattle.refuse.specs.Of.{input_model}
 use Rattle.refuse.proofs.rows.starts_wrong.Goals as goal
 
 pub returns : goal.returns
-unfolding starts_wrong start_falls from upto
-returns c = rw c.before.start_falls.ensures
+returns c = starts_are (input_model c.args.input) c.requires c.start_falls.ensures

@@ -16,7 +16,7 @@ store_binding-requires c = record {
     search rules,
     search rules,
     search rules,
-    there_bound c.args.v c.requires.r_lt_rows.0 c.requires.r_lt_rows.3 c.has_binary.ensures c.if-has_binary.true
+    there_bound c.args.t.var c.requires.r_lt_rows.0 c.requires.r_lt_rows.3 c.has_binary.ensures c.if-has_binary.true
         c.requires.ready,
   );
   ready = search rules;
@@ -24,7 +24,7 @@ store_binding-requires c = record {
 
 pub returns-then-has_binary : goal.returns-then-has_binary
 returns-then-has_binary c = record {
-  acts = there_acts c.args.v c.requires.r_lt_rows.0 c.requires.r_lt_rows.3 c.has_binary.ensures c.if-has_binary.true c.args.a
+  acts = there_acts c.args.t.var c.requires.r_lt_rows.0 c.requires.r_lt_rows.3 c.has_binary.ensures c.if-has_binary.true c.args.t.coeff
       c.args.b c.args.bp c.store_binding.ensures.acts;
   reads = search there_growth;
 }
@@ -39,20 +39,20 @@ store_binding-requires-2 c = record {
     omega arith,
     omega arith,
     alive_stays c.requires.r_lt_rows.0 c.add_binary.ensures
-        (new_stays c.args.v c.requires.r_lt_rows.0 c.requires.r_lt_rows.3 c.has_binary.ensures c.requires.r_lt_rows.4 c.if-has_binary.false _ _ _)
+        (new_stays c.args.t.var c.requires.r_lt_rows.0 c.requires.r_lt_rows.3 c.has_binary.ensures c.requires.r_lt_rows.4 c.if-has_binary.false _ _ _)
         c.requires.ready,
-    new_bound c.args.v c.requires.r_lt_rows.0 c.requires.r_lt_rows.3 c.has_binary.ensures c.requires.r_lt_rows.4 c.if-has_binary.false _ _ _
+    new_bound c.args.t.var c.requires.r_lt_rows.0 c.requires.r_lt_rows.3 c.has_binary.ensures c.requires.r_lt_rows.4 c.if-has_binary.false _ _ _
         c.add_binary.ensures c.requires.ready,
   );
   ready = ready_stays c.requires.r_lt_rows.0 c.add_binary.ensures
-      (new_stays c.args.v c.requires.r_lt_rows.0 c.requires.r_lt_rows.3 c.has_binary.ensures c.requires.r_lt_rows.4 c.if-has_binary.false _ _ _)
+      (new_stays c.args.t.var c.requires.r_lt_rows.0 c.requires.r_lt_rows.3 c.has_binary.ensures c.requires.r_lt_rows.4 c.if-has_binary.false _ _ _)
       c.requires.ready;
 }
 
 pub returns : goal.returns
 returns c = record {
-  acts = new_acts c.args.v c.requires.r_lt_rows.0 c.requires.r_lt_rows.3 c.has_binary.ensures c.requires.r_lt_rows.4 c.if-has_binary.false _ _ _
+  acts = new_acts c.args.t.var c.requires.r_lt_rows.0 c.requires.r_lt_rows.3 c.has_binary.ensures c.requires.r_lt_rows.4 c.if-has_binary.false _ _ _
       c.add_binary.ensures _ c.store_binding-2.ensures.acts;
-  reads = new_growth c.args.v c.requires.r_lt_rows.0 c.requires.r_lt_rows.3 c.has_binary.ensures c.requires.r_lt_rows.4 c.if-has_binary.false _ _ _
+  reads = new_growth c.args.t.var c.requires.r_lt_rows.0 c.requires.r_lt_rows.3 c.has_binary.ensures c.requires.r_lt_rows.4 c.if-has_binary.false _ _ _
       c.add_binary.ensures _ c.store_binding-2.ensures.reads;
 }

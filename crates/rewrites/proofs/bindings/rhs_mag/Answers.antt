@@ -5,4 +5,4 @@ use Rattle.floats.specs.Num.{◌⊕◌, abs}
 use Rattle.rewrites.proofs.bindings.rhs_mag.Goals as goal
 
 pub returns : goal.returns
-returns c = c.absolute.ensures ∙ ap (λ (x : Float). abs (c.args.b ⊕ x)) c.get_shift-x.ensures
+returns c = c.absolute.ensures ∙ ap (λ (x : Float). abs (c.args.b ⊕ x)) c.get.ensures

@@ -1,5 +1,4 @@
 -- `rounds`: what is left of the definition after n rounds gives the whole.
-use Prim.Native.Nat.{◌-◌}
 use mathlib.Core.Path.{◌≡◌}
 use lib.ListN.{length}
 use Rattle.space.specs.Store.{floats_of, numbers_of}
@@ -9,7 +8,4 @@ use Rattle.rounds.proofs.fixpoint.rounds.Given as goal
 
 abbrev pub invariant-loop-n : goal.invariant-loop-n
 invariant-loop-n l = (length l.w ≡ length l.initial.w) × (length l.m ≡ length l.initial.m)
-    × Rounding (Running l.obj l.domain l.starts l.index l.coeff l.cmp l.rhs l.adj l.mode) l.s (floats_of l.s l.initial.w) (numbers_of l.s l.initial.m) (floats_of l.s l.w) (numbers_of l.s l.m) l.cap l.n
-
-abbrev pub decreases-loop-n : goal.decreases-loop-n
-decreases-loop-n l = l.cap - l.n
+    × Rounding (Running l.obj l.lists l.mode) l.s (floats_of l.s l.initial.w) (numbers_of l.s l.initial.m) (floats_of l.s l.w) (numbers_of l.s l.m) l.cap l.n

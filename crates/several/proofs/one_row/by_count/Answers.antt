@@ -3,13 +3,13 @@ use Rattle.several.specs.ByCount.{by_none, by_one, by_more}
 use Rattle.several.proofs.one_row.by_count.Goals as goal
 
 pub returns-then-n-eq0 : goal.returns-then-n-eq0
-returns-then-n-eq0 c = by_none _ c.requires.r_lt_rows.0 c.requires.r_lt_rows.3 c.get_len-n.ensures c.if-n-eq0.true
+returns-then-n-eq0 c = by_none _ c.requires.r_lt_rows.0 c.requires.r_lt_rows.3 c.get-n.ensures c.if-n-eq0.true
     c.empty_row_check.ensures
 
 pub returns-then-n-eq1 : goal.returns-then-n-eq1
-returns-then-n-eq1 c = by_one _ c.requires.r_lt_rows.0 c.requires.r_lt_rows.3 c.get_len-n.ensures c.if-n-eq1.true
+returns-then-n-eq1 c = by_one _ c.requires.r_lt_rows.0 c.requires.r_lt_rows.3 c.get-n.ensures c.if-n-eq1.true
     c.singleton_row.ensures
 
-pub returns : goal.returns
-returns c = by_more _ c.requires.r_lt_rows.0 c.requires.r_lt_rows.3 c.get_len-n.ensures c.if-n-eq0.false c.if-n-eq1.false
+pub returns-else-n-eq1 : goal.returns-else-n-eq1
+returns-else-n-eq1 c = by_more _ c.requires.r_lt_rows.0 c.requires.r_lt_rows.3 c.get-n.ensures c.if-n-eq0.false c.if-n-eq1.false
     c.several_terms.ensures

@@ -2,11 +2,9 @@
 use Rattle.several.specs.Several.{reach_never, reach_reduces}
 use Rattle.several.proofs.several.reach_of.Goals as goal
 
+pub returns-then-above-below : goal.returns-then-above-below
+returns-then-above-below c = reach_never c.args.x c.args.act c.above_hi-above.ensures c.below_lo-below.ensures c.if-above-below.true
+
 pub returns : goal.returns
-returns c = record {
-  says = reach_never _ _ c.above_hi-above.ensures
-      c.below_lo-below.ensures
-      c.either.ensures;
-  says_2 = reach_reduces _ _ c.near_min-low.ensures c.near_max-high.ensures
-      c.within-inside.ensures c.either-2.ensures c.either-3.ensures;
-}
+returns c = reach_reduces c.args.x c.args.act c.above_hi-above.ensures c.below_lo-below.ensures c.if-above-below.false
+    c.near_min-low.ensures c.near_max-high.ensures c.within-inside.ensures

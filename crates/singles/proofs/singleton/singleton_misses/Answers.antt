@@ -3,6 +3,4 @@ use Rattle.singles.specs.Singleton.{misses_is}
 use Rattle.singles.proofs.singleton.singleton_misses.Goals as goal
 
 pub returns : goal.returns
-returns c = misses_is _ _ _ _ _ c.limits-x.ensures
-    c.written_terms-n.ensures c.get_elo-elo.ensures
-    c.get_ehi-ehi.ensures c.bound_tol-low.ensures c.bound_tol-high.ensures c.misses.ensures
+returns c = misses_is _ _ _ _ _ c.limits-x.ensures c.written_terms.ensures c.emitted.ensures c.misses.ensures

@@ -5,21 +5,21 @@ use Rattle.tighten.specs.Queued.{requeue_old, requeue_room, requeue_new}
 use borrow.Author.Rules.{rules}
 use Rattle.tighten.proofs.rewriting.requeue.Goals as goal
 
-pub returns-then-d-eq1 : goal.returns-then-d-eq1
-returns-then-d-eq1 c = requeue_old c.requires.r_lt_rows.0 c.get_dirty-d.ensures c.if-d-eq1.true
+pub returns-then-get-eq1 : goal.returns-then-get-eq1
+returns-then-get-eq1 c = requeue_old c.requires.r_lt_rows.0 c.get.ensures c.if-get-eq1.true
 
-pub put_queue-requires : goal.put_queue-requires
-put_queue-requires c = search (requeue_room, rules)
+pub put-requires-2 : goal.put-requires-2
+put-requires-2 c = search (requeue_room, rules)
 
 pub overflow_add-q : goal.overflow_add-q
 overflow_add-q c = omega (
   arith,
-  requeue_room c.requires.r_lt_rows.0 c.get_dirty-d.ensures c.if-d-eq1.false c.put_dirty.ensures
-      c.get_queued-q.ensures c.requires.ready_n,
+  requeue_room c.requires.r_lt_rows.0 c.get.ensures c.if-get-eq1.false c.put.ensures
+      c.get-q.ensures c.requires.ready_n,
 )
 
 pub returns : goal.returns
-returns c = requeue_new c.requires.r_lt_rows.0 c.get_dirty-d.ensures
-    c.if-d-eq1.false c.put_dirty.ensures c.get_queued-q.ensures
-    (queue_length _ _ c.requires.r_lt_rows.1) (queued_length _ _ c.requires.r_lt_rows.1) c.put_queue.ensures
-    c.put_queued.ensures
+returns c = requeue_new c.requires.r_lt_rows.0 c.get.ensures
+    c.if-get-eq1.false c.put.ensures c.get-q.ensures
+    (queue_length _ _ c.requires.r_lt_rows.1) (queued_length _ _ c.requires.r_lt_rows.1) c.put-2.ensures
+    c.put-3.ensures

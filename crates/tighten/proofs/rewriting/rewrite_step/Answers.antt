@@ -1,15 +1,17 @@
 -- `rewrite_step`: the term is left alone, or rewritten in its row, which then ends or goes on.
 use native.Mathlib.Omega.{arith}
+use mathlib.Core.Path.{refl}
 use Rattle.view.specs.Steps.{ready_under}
 use Rattle.readers.specs.Reading.{domain_in}
 use Rattle.readers.specs.RowAt.{row_ready, live_place, live_var}
 use Rattle.tighten.specs.Tightening.{tightening_spans, tightening_domains}
-use Rattle.tighten.specs.Step.{term_nonzero, step_keeps, after_ready, after_live, step_rewrites}
+use Rattle.tighten.specs.Step.{term_some, term_none, term_nonzero, step_keeps, after_ready, after_live, step_rewrites}
+use Rattle.tighten.specs.Carried.{begun, not_some}
 use borrow.Author.Rules.{rules}
 use Rattle.tighten.proofs.rewriting.rewrite_step.Goals as goal
 
-pub bounds-starts-r : goal.bounds-starts-r
-bounds-starts-r c = omega (arith, (row_ready c.requires.ready tightening_spans c.requires.r_lt_rows.0 c.requires.r_lt_rows.3).long)
+pub bounds-lists-r : goal.bounds-lists-r
+bounds-lists-r c = omega (arith, (row_ready c.requires.ready tightening_spans c.requires.r_lt_rows.0 c.requires.r_lt_rows.3).long)
 
 pub overflow_add-p : goal.overflow_add-p
 overflow_add-p c = omega (
@@ -18,19 +20,17 @@ overflow_add-p c = omega (
   (row_ready c.requires.ready tightening_spans c.requires.r_lt_rows.0 c.requires.r_lt_rows.3).small,
 )
 
-pub get_var-v-requires : goal.get_var-v-requires
-get_var-v-requires c = search (live_place, tightening_spans)
+pub get-v-requires : goal.get-v-requires
+get-v-requires c = search (live_place, tightening_spans)
 
-pub get_coeff-a-requires : goal.get_coeff-a-requires
-get_coeff-a-requires c = search (live_place, tightening_spans)
+pub get-a-requires : goal.get-a-requires
+get-a-requires c = search (live_place, tightening_spans)
 
-pub rewrite_term-z-requires : goal.rewrite_term-z-requires
-rewrite_term-z-requires c = (search (live_var, tightening_spans), search (domain_in, tightening_domains, live_var, tightening_spans), search rules)
+pub rewrite_term-requires : goal.rewrite_term-requires
+rewrite_term-requires c = (search (live_var, tightening_spans), search (domain_in, tightening_domains, live_var, tightening_spans), search rules)
 
-pub returns-then-rewrite_count-eq0 : goal.returns-then-rewrite_count-eq0
-returns-then-rewrite_count-eq0 c = step_keeps _ _ c.requires.r_lt_rows.0 c.requires.r_lt_rows.3 c.requires.r_lt_rows.4 c.get_var-v.ensures
-    c.get_coeff-a.ensures _ _ _ c.limits-l.ensures
-    c.rewrite_term-z.ensures c.requires.r_lt_rows.5 c.rewrite_count.ensures c.if-rewrite_count-eq0.true
+pub returns-in_default : goal.returns-in_default
+returns-in_default c = step_keeps _ _ c.requires.r_lt_rows.0 c.requires.r_lt_rows.3 c.requires.r_lt_rows.4 c.get-v.ensures c.get-a.ensures _ _ (begun c.args.x.act c.args.changed) c.limits-limits.ensures (term_none (not_some _ c.in_default.not-Some) c.rewrite_term.ensures) refl refl
 
 pub row_after-requires : goal.row_after-requires
 row_after-requires c = record {
@@ -40,9 +40,7 @@ row_after-requires c = record {
     c.requires.r_lt_rows.2,
     c.requires.r_lt_rows.3,
     c.requires.r_lt_rows.4,
-    term_nonzero _ _ c.requires.r_lt_rows.0 c.requires.r_lt_rows.3 c.requires.r_lt_rows.4 c.get_var-v.ensures
-        c.get_coeff-a.ensures _ _ c.args.x c.limits-l.ensures
-        c.rewrite_term-z.ensures c.requires.ready,
+    term_nonzero _ _ c.requires.r_lt_rows.0 c.requires.r_lt_rows.3 c.requires.r_lt_rows.4 c.get-v.ensures c.get-a.ensures _ _ (begun c.args.x.act c.args.changed) c.limits-limits.ensures (term_some c.in-Some.is c.rewrite_term.ensures) c.requires.ready,
   );
   v_value = search rules;
   ready = search (ready_under, tightening_spans);
@@ -54,17 +52,10 @@ rewritten-requires c = record {
     c.requires.r_lt_rows.0,
     omega arith,
     omega arith,
-    after_live _ _ c.requires.r_lt_rows.0 c.requires.r_lt_rows.3 c.requires.r_lt_rows.4 c.get_var-v.ensures
-        c.get_coeff-a.ensures _ _ c.args.x c.limits-l.ensures
-        c.rewrite_term-z.ensures c.row_after.ensures c.requires.ready,
+    after_live _ _ c.requires.r_lt_rows.0 c.requires.r_lt_rows.3 c.requires.r_lt_rows.4 c.get-v.ensures c.get-a.ensures _ _ (begun c.args.x.act c.args.changed) c.limits-limits.ensures (term_some c.in-Some.is c.rewrite_term.ensures) c.row_after.ensures c.requires.ready,
   );
-  ready = after_ready _ _ c.requires.r_lt_rows.0 c.requires.r_lt_rows.3 c.requires.r_lt_rows.4 c.get_var-v.ensures
-      c.get_coeff-a.ensures _ _ c.args.x c.limits-l.ensures
-      c.rewrite_term-z.ensures c.row_after.ensures c.requires.ready;
+  ready = after_ready _ _ c.requires.r_lt_rows.0 c.requires.r_lt_rows.3 c.requires.r_lt_rows.4 c.get-v.ensures c.get-a.ensures _ _ (begun c.args.x.act c.args.changed) c.limits-limits.ensures (term_some c.in-Some.is c.rewrite_term.ensures) c.row_after.ensures c.requires.ready;
 }
 
 pub returns : goal.returns
-returns c = step_rewrites _ _ c.requires.r_lt_rows.0 c.requires.r_lt_rows.3 c.requires.r_lt_rows.4 c.get_var-v.ensures
-    c.get_coeff-a.ensures _ _ _ c.limits-l.ensures c.rewrite_term-z.ensures
-    c.row_after.ensures c.requires.r_lt_rows.5 c.rewrite_count.ensures c.if-rewrite_count-eq0.false
-    c.act_after-act.ensures c.rewritten.ensures
+returns c = step_rewrites _ _ c.requires.r_lt_rows.0 c.requires.r_lt_rows.3 c.requires.r_lt_rows.4 c.get-v.ensures c.get-a.ensures _ _ (begun c.args.x.act c.args.changed) c.limits-limits.ensures (term_some c.in-Some.is c.rewrite_term.ensures) c.row_after.ensures _ refl refl c.act_after-act.ensures (c.rewritten.ensures c.args.x.act)

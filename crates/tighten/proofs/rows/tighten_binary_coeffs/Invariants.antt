@@ -1,15 +1,8 @@
 -- `tighten_binary_coeffs`: what is left of the definition from row r on gives the whole.
-use Prim.Native.Nat.{◌-◌}
-use mathlib.Core.Path.{◌≡◌}
-use lib.ListN.{length}
 use Rattle.space.specs.Store.{floats_of, numbers_of}
 use Rattle.tighten.specs.Tightening.{Tightening}
 use Rattle.tighten.specs.All.{AtRow}
 use Rattle.tighten.proofs.rows.tighten_binary_coeffs.Given as goal
 
 abbrev pub invariant-loop-r : goal.invariant-loop-r
-invariant-loop-r l = (length l.w ≡ length l.initial.w) × (length l.m ≡ length l.initial.m)
-    × AtRow (Tightening l.domain l.starts l.index l.coeff l.cmp l.rhs) l.s l.r l.changed (floats_of l.s l.initial.w) (numbers_of l.s l.initial.m) (floats_of l.s l.w) (numbers_of l.s l.m)
-
-abbrev pub decreases-loop-r : goal.decreases-loop-r
-decreases-loop-r l = l.s.rows - l.r
+invariant-loop-r l = AtRow (Tightening l.lists) l.s l.r l.changed (floats_of l.s l.initial.w) (numbers_of l.s l.initial.m) (floats_of l.s l.w) (numbers_of l.s l.m)

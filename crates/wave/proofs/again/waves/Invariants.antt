@@ -1,5 +1,4 @@
 -- `waves` is waves, as many as are left.
-use Prim.Native.Nat.{◌-◌}
 use mathlib.Core.Path.{◌≡◌}
 use lib.ListN.{length}
 use Rattle.space.specs.Store.{floats_of, numbers_of}
@@ -9,7 +8,4 @@ use Rattle.wave.proofs.again.waves.Given as goal
 
 abbrev pub invariant-loop-p : goal.invariant-loop-p
 invariant-loop-p l = (length l.w ≡ length l.initial.w) × (length l.m ≡ length l.initial.m)
-    × Waving (Known l.domain l.starts l.index l.coeff l.cmp l.rhs l.adj) l.s (floats_of l.s l.initial.w) (numbers_of l.s l.initial.m) (floats_of l.s l.w) (numbers_of l.s l.m) l.cap l.p
-
-abbrev pub decreases-loop-p : goal.decreases-loop-p
-decreases-loop-p l = l.cap - l.p
+    × Waving (Known l.lists) l.s (floats_of l.s l.initial.w) (numbers_of l.s l.initial.m) (floats_of l.s l.w) (numbers_of l.s l.m) l.cap l.p

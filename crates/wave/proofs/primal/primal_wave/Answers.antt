@@ -10,23 +10,23 @@ copy_queue-requires c = search queued_fits
 pub overflow_add-p : goal.overflow_add-p
 overflow_add-p c = omega (
   arith,
-  passes_small c.copy_queue.ensures c.put_queued.ensures c.get_passes-p.ensures
+  passes_small c.copy_queue.ensures c.put.ensures c.get-p.ensures
       c.requires.holds_f.2,
 )
 
 pub wave_rows-requires : goal.wave_rows-requires
 wave_rows-requires c = record {
   holds_f = (c.requires.holds_f.0, omega arith);
-  ready_wave = ready_wave (queued_length _ _ c.requires.holds_f.1) (passes_length _ _ c.requires.holds_f.1) c.get_queued-n.ensures
-      c.copy_queue.ensures c.put_queued.ensures
-      c.get_passes-p.ensures c.put_passes.ensures c.requires.ready;
+  ready_wave = ready_wave (queued_length _ _ c.requires.holds_f.1) (passes_length _ _ c.requires.holds_f.1) c.get-n.ensures
+      c.copy_queue.ensures c.put.ensures
+      c.get-p.ensures c.put-2.ensures c.requires.ready;
 }
 
 pub returns : goal.returns
 returns c = wave_tries (queued_length _ _ c.requires.holds_f.1) (passes_length _ _ c.requires.holds_f.1)
-    c.get_queued-n.ensures
+    c.get-n.ensures
     c.copy_queue.ensures
-    c.put_queued.ensures
-    c.get_passes-p.ensures
-    c.put_passes.ensures
+    c.put.ensures
+    c.get-p.ensures
+    c.put-2.ensures
     c.wave_rows.ensures

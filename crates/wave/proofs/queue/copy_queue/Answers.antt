@@ -1,7 +1,5 @@
 -- `copy_queue`: the rows queued so far stand in the wave's block, in their order.
-use Prim.Native.Nat.{◌-◌}
 use native.Mathlib.Omega.{arith}
-use lib.ListN.{length}
 use Rattle.space.specs.Blocks.{wave_length, queue_length}
 use Rattle.wave.specs.Begin.{copied_turn, copied_end}
 use Rattle.wave.proofs.queue.copy_queue.Goals as goal
@@ -11,7 +9,7 @@ loop-i-preserved c = (
   omega arith,
   omega arith,
   copied_turn c.loop-i.invariant.2 (wave_length _ _ (omega arith)) (queue_length _ _ c.requires.1) c.requires.0 c.loop-i-test.true
-      c.get_queue-r.ensures c.put_wave.ensures,
+      c.get-r.ensures c.put.ensures,
 )
 
 pub returns : goal.returns

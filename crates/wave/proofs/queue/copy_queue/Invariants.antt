@@ -1,5 +1,5 @@
 -- `copy_queue`: the rows queued so far stand in the wave's block, in their order.
-use Prim.Native.Nat.{◌-◌, ◌≤◌}
+use Prim.Native.Nat.{◌≤◌}
 use mathlib.Core.Path.{◌≡◌}
 use lib.ListN.{length}
 use Rattle.space.specs.Store.{numbers_of}
@@ -8,6 +8,3 @@ use Rattle.wave.proofs.queue.copy_queue.Given as goal
 
 abbrev pub invariant-loop-i : goal.invariant-loop-i
 invariant-loop-i l = (length l.m ≡ length l.initial.m) × (l.i ≤ l.n) × Copied (numbers_of l.s l.initial.m) (numbers_of l.s l.m) l.i
-
-abbrev pub decreases-loop-i : goal.decreases-loop-i
-decreases-loop-i l = l.n - l.i

@@ -1,10 +1,9 @@
--- `bounds_off`: the lower bound first, then the upper.
-use Rattle.whole_numbers.specs.Branches.{upper_next, lower_fails}
-use borrow.Author.Rules.{rules}
+-- The lower bound first, then the upper.
+use Rattle.whole_numbers.specs.Branches.{lower_off, upper_off}
 use Rattle.whole_numbers.proofs.conditions.bounds_off.Goals as goal
 
-pub returns-then-whole_within : goal.returns-then-whole_within
-returns-then-whole_within c = search (upper_next, rules)
+pub returns-then-number_off : goal.returns-then-number_off
+returns-then-number_off c = lower_off _ _ _ c.number_off.ensures c.if-number_off.true
 
-pub returns : goal.returns
-returns c = search (lower_fails, rules)
+pub returns-else-number_off : goal.returns-else-number_off
+returns-else-number_off c = upper_off _ _ _ c.number_off.ensures c.if-number_off.false c.number_off-else-number_off.ensures

@@ -1,4 +1,4 @@
--- `is_whole`: a finite float is whole where it equals its floor.
+-- A finite float is whole where it equals its floor.
 use mathlib.Core.Path.{sym, ap, subst, ◌∙◌}
 use lib.Dec.{T}
 use lib.Ieee.{Float, eq}
@@ -9,5 +9,5 @@ pub returns-then-is_finite : goal.returns-then-is_finite
 returns-then-is_finite c = ap (λ (y : Float). eq y c.args.x) c.floor.ensures ∙ finite_whole c.args.x (subst T (sym c.well_formed.0.1) tt)
     (sym c.is_finite.ensures ∙ c.if-is_finite.true)
 
-pub returns : goal.returns
-returns c = infinite_whole _ (sym c.is_finite.ensures ∙ c.if-is_finite.false)
+pub returns-else-is_finite : goal.returns-else-is_finite
+returns-else-is_finite c = c.if-is_finite.false ∙ infinite_whole _ (sym c.is_finite.ensures ∙ c.if-is_finite.false)

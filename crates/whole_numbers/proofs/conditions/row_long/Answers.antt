@@ -1,13 +1,13 @@
--- `row_long`: a row past the end and one that falls have no terms.
-use Rattle.whole_numbers.specs.Branches.{row_past, row_falls, row_length}
-use borrow.Author.Rules.{rules}
+-- A row past the end, and the last start, have no terms.
+use Rattle.std.proofs.Common.{rules}
+use Rattle.whole_numbers.specs.Branches.{row_past, row_last, row_length}
 use Rattle.whole_numbers.proofs.conditions.row_long.Goals as goal
 
 pub returns-then-r-starts : goal.returns-then-r-starts
 returns-then-r-starts c = search (row_past, rules)
 
-pub returns-then-upto-from : goal.returns-then-upto-from
-returns-then-upto-from c = search (row_falls, rules)
+pub returns-in-Some : goal.returns-in-Some
+returns-in-Some c = search (row_length, rules)
 
-pub returns : goal.returns
-returns c = search (row_length, rules)
+pub returns-in-None : goal.returns-in-None
+returns-in-None c = search (row_last, rules)

@@ -1,0 +1,8 @@
+-- `eligible`: what is left of the definition from the term looked at on gives the whole.
+use Rattle.formulas.specs.Rewriting.{maybe_form}
+use Rattle.space.specs.Store.{floats_of, numbers_of}
+use Rattle.coeffs.specs.Eligible.{Counting}
+use Rattle.coeffs.proofs.tighten.OneSided.eligible.Given as goal
+
+abbrev pub invariant-loop-i : goal.invariant-loop-i
+invariant-loop-i l = Counting l.domain l.starts l.s (floats_of l.s l.w) (numbers_of l.s l.m) (maybe_form l.self.form) l.self.room l.self.act l.r l.i l.n

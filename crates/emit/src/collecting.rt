@@ -1,0 +1,33 @@
+// The rows of some fates, each as a value, at the front of a slice.
+ghost use Rattle.std.specs.Prelude.{ℕ, ◌≤◌, ◌<◌, Bool, length};
+ghost use Rattle.space.specs.Store.{numbers_of, HoldsN};
+ghost use Rattle.emit.specs.declared.fates.Fate.{Fate};
+ghost use Rattle.emit.specs.Filling.{Filled};
+ghost use Rattle.emit.specs.FateNumbers.{Writes};
+
+use crate::fates::{Fate, fate_of};
+use space::Shape;
+
+// The values of the rows whose fate passes the test. How many there are.
+pub(crate) fn collect<T: Copy, P: Fn(Fate) -> bool, V: Fn(usize, Fate) -> T>(
+    m: &[usize],
+    s: Shape,
+    out: &mut [T],
+    test: P,
+    value: V,
+) -> usize
+    requires holds_n { HoldsN s m.now × (s.rows ≤ length out.old) }
+    requires tests { (x : Fate) → P.pre test x }
+    requires values { (r : ℕ) (x : Fate) → r < s.rows → V.pre value r x }
+    ensures { (p : ℕ → Bool) (g : ℕ → T) → Writes (P.post test) (V.post value) (numbers_of s m.now).fate s.rows p g → Filled p g s.rows out.old out.new result }
+{
+    let mut n = 0;
+    for r in 0..s.rows {
+        let fate = fate_of(m, s, r);
+        if test(fate) {
+            out[n] = value(r, fate);
+            n += 1;
+        }
+    }
+    n
+}

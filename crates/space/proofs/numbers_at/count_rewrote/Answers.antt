@@ -1,5 +1,0 @@
--- `count_rewrote` puts one more than it reads, modulo 2^64.
-use Rattle.space.proofs.numbers_at.count_rewrote.Goals as goal
-
-pub returns : goal.returns
-returns c = cc
