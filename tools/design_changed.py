@@ -6,11 +6,12 @@ usage: tools/design_changed.py COMMIT [--left]
   CHANGED.md      each public function of which the signature or a clause changed, each public type, trait and constant
   DEFINITIONS.md  each definition and theorem of specs/, and of proofs/ but for the answers of functions, of which the statement
                   (of a definition: its value too) changed
-  GONE.md         each public name and each name of specs/ and proofs/ that is gone, and what states its promise now
+  GONE.md         each public name, each private function and each name of specs/ and proofs/ that is gone, and what states its promise now
 
 What states a gone name is read from tools/design_gone.tsv: crate, file, name, new name (or -), remark, with tabs between. A file ending
-in / or a name `*` stands for all that begins so. The new name (with no-break spaces in it where it has spaces) is `NAME`, `FILE NAME` or `CRATE FILE NAME`; several with ` + ` between.
-With --left the gone names without a line in the table are printed, and lines of the table that nothing uses.
+in / or a name `*` stands for all that begins so. The new name (with no-break spaces in it where it has spaces) is `NAME`, `FILE NAME`, `CRATE FILE NAME`,
+or `std NAME` for what the library has, which is not looked up; several with ` + ` between.
+With --left the gone names without a line in the table are printed, new names that stand nowhere, and lines of the table that nothing uses.
 
 By the text alone, spaces, comments, `use` lines and the names of clauses out. A module's parameters are part of the statements in it.
 """
@@ -34,20 +35,63 @@ HEAD_CHANGED = """What is the same all through, and is listed all the same:
   call one `Input`, each by value. A predicate over such a struct says of its fields what it said of the slices: `Written rows` for
   `Written starts.now index.now coeff.now cmp.now rhs.now`. In an `ensures`, `rows.entry` is the struct that was handed in.
 - `Limits` has the tolerance and the row's count of terms too, so clauses say `Says self.feas self.terms` for `Says feas l`; `bare` takes the four floats of it.
-- `activity::<Working>` and `activity::<Emitted>` are the two ways of `working`.
+
+And of single functions:
+
+- readers `activity(.., working)` is the choice of an instance: `activity::<Working>` for true, `activity::<Emitted>` for false, each with the old clause at that value (`B.working`).
+- readers `limits(w, s, r)` takes the count of terms too, which it puts into the struct as it is, with the tolerance of `s`; the four floats are read as before.
+- presolve `reduced_model` takes a refusal of any type, and promises the old clause for each way of giving such a refusal a number. For `Refusal` and `number_of` that is
+  `second_is` and `answer_is`; for a number and the identity it is what was promised of an answer with any number.
+- print_result `print_answer` takes the lists' lengths where `vars`, `emitted` and `validated` stood apart. No text is lost: `bound_lines`, `row_texts` and `validate_lines` take the lesser
+  of such a count and their lists' lengths and read no entry past it, so the text of an old call is that of the new one with `lower`, `row` and `kept` each cut short to its count, where it is longer.
+- print_result `print_numbers(0, i)` is `print_numbers(None)`, and `print_numbers(k, i)` with any other k is that of `Some(Off { number: k, place: i })`: `numbers_line` of the two is
+  `numbers_text` of the option (`numbers_whole`, `numbers_off`).
 """
 HEAD_DEFINITIONS = """What is the same all through, and is listed all the same:
 
 - A step's answer is `Outcome`, which is `Result ⊤ Infeasible`: `Err e` for `Stop`, `Ok tt` for `Next` (view/specs/Shows). A law over `Stop` is now over `Err e` for every e.
 - Lists as loose parameters (`ss is cs os bs`, `ds`, `js`) are the fields of one `Rows`, `Lists` or `Input` (`x.starts.now` for `ss`), so a module's parameters are
   shorter, and the statements say the same of the fields. For each choice of loose lists that a call can have there is such a struct.
-- A loop that counted by hand had its bound (`upto`) in its invariant; a `for` has it of itself.
 - std's `Option` and `Result` take the place of `Verdict`, `Violation`, `Rest`, `Move`, `Printed`, `Numbers` and of the refusals.
 - Under "Definitions" the value is shown too, under "Theorems and lemmas" the statement alone. Where the definition or record that a law is about changed, it stands above it in this page.
+
+Records that lost fields. A law that takes such a record is given less, and holds without it; a law that ends in one says less by the field:
+
+- begin `SumInv` and `RoundInv`, emit `Placing`: `upto`, the bound of a place counted by hand. A `for` has it of itself: where a law of the loop's end took N ≤ v and had v ≤ N of `upto`, it takes
+  v ≡ N (`sum_end`, `round_end`), and `place_end` takes j ≡ 0; `place_var` and `place_turn` take the place k that the `for` gives, with k < total or j ≡ k + 1, where they had k - 1 and 0 < k.
+- emit `Clearing`: `upto` likewise; `long` and `below`, which were what `clear_slots` is asked, carried along: the clause asks `Below s.vars` of the row's own variables, and the loop goes over these.
+- emit `Adding`: `past`, `upto` and `long` said where in the whole list the place i stands; i is a place in the row's own variables `vs` now. `room` is n ≤ before + i for n ≤ i, where before ≤ a held.
+  `xs_kept` and `ys_kept`, that both lists keep their lengths: the check has that of every slice that is written.
+- emit `SlotsIn` is of the row's own variables too. folds `Turned` counts the terms that are done, j, where it counted those left; model_file `RowsFilling` has `indices` and `coeffs` in its one `room`.
+
+Laws that are asked more, or are of fewer things, by the letter:
+
+- presolve_c/Demands `is_answer_of` is of an outcome whose refusal's number is one of the table's (`Numbered r`), where it was of every outcome: `Refusal` has the ten rows and no others, so
+  `answer_of (refused k)` is the row k for 1 to 10, the first one for 0 and the last one above. Every call's outcome is such a one (`numbered`), so what the law was for, `IsCall`, is as it was. The old law itself, of every outcome and every number, is `is_answer_by`.
+- presolve/Steps `promise_refused` and presolve_c/Steps `earlier` take a row k of the table and say `number_of k`, where they took a number k: what is answered is `Err k`, and there is no other.
+- presolve/Steps `room, called, reduce_given, holds_*, has_room, ready_results, small, fit, promise_stopped, promise_done` are of `input_model i`, where they were of a model M: what they speak of
+  is given by an `Input` now (`Called i`, `Given i`), and not by M's lists. Each accepted M is the `input_model` of such an input: `accepted_input`. The model of every call is one: the proof of
+  `accepted`, which the laws are for, has that of its `input`.
+- tighten/Rows and tighten/Step: laws of one row's step are at no change before (`false`), where they were at any `changed`: the step says what it changed itself. That a step begun with a
+  change is the one begun with none, with the flag or'ed, is `row_before`, `by_before`, `form_before` and `step_before`, so the two say the same.
+- forcing/Forced `forced_is`, `fits_is`, `forcing_not` and `forcing_all` take `ReadsLimits s f r k x`: their `Says` is over the tolerance and the count in `x`, and two fields of `ReadsLimits` are that these are the call's and the
+  row's, of which `Says` was before. Of each row below `s.rows` the slices give such an x (`limits_read`).
+- singles/Singleton `misses_is`, `low_is`, `implied_not` and `implied_by` take one `ReadsEnds s f v e`, all four numbers of a variable, where `low_is` and `implied_not` took the lower two: readers' `emitted`
+  gives such an `e` for each v below `s.vars`.
+- print_result/Printing `written` asks `length l < top` and is of `Counted` and `Filled`, where it was of a `Poured` of `length l + 1`: the first run counts up to the largest number, where it counted up
+  to one more than the buffer's length. The check has the bound of every slice, so `print` asks nothing for it. `no_room` and `counted` are of `Counted` likewise: the count is `min (length t) top`,
+  where it was `min (length t) (length l + 1)`; either is above `length l` just where the text does not fit.
 """
-HEAD_GONE = """A definition or lemma of specs/ is gone only where it served one function's former body: as the state of a `while` that is a `for` now, as one way through
-an `if` that is one equation now, or as the unfolding of loose parameters that are a struct now. Neither README.md nor docs/ named one of them as a law, and no other crate cited one, but for `verdict_of` of tolerances, which readers and begin cited and which is `option_of` now, and `fits_bytes` and `fits_none` of presolve_file, which numbers_file cited and which are one law now.
+HEAD_GONE = """A definition or lemma is gone where it served one function's former body: as the state of a `while` that is a `for` now, as one way through
+an `if` that is one equation now, or as the unfolding of loose parameters that are a struct now. A law that speaks of a record which is gone went with it, since it can't be
+written any more: so those over begin's `CrossInv`, emit's `PutIf` and `Before`, print_result's `Page`, `Poured` and `Left`, whole_numbers' `Passed`, zeros' `Filled`, the two `Least`, forcing's `Testing` and
+implied's `half_step` and `halves`. Laws that can be written in today's words stand where they stood, whether today's proofs use them
+or not, or are a case of one law that says more (`alive_form`, `after_both`, `work_is`, `half_none`). Beside each name stands what states its promise now: a clause, a law, a definition with its cases, or (as `std`)
+a function or law of the library; the remark says what differs, and where something is stated no more.
+Neither README.md nor docs/ named one of them as a law, and no other crate cited one, but for `verdict_of` of tolerances, which readers, begin and emit cited and which is `option_of` now.
 What is marked private was cited in its own file alone. The getters and putters of space were compared one by one: each clause is the marker's `at` or `puts`, each requires its `size` and `holds`.
+Of the private functions, those of the libraries have the function, method or trait with the clause, and the laws that say the rest; those of the gate's programs had mostly no
+contract, and have what prints or does it now.
 """
 
 
@@ -159,6 +203,7 @@ def public(files, crate):
 
 
 def sources(files):
+    """What src/ hands out, and the functions that it doesn't (these with `pub` false)."""
     out = []
     crates = sorted({p.split("/")[1] for p in files})
     for crate in crates:
@@ -184,18 +229,14 @@ def sources(files):
                         stack.append((closing(t, end), w[0], "fn"))
                     if inside:
                         s = inside[-1]
-                        words = set(WORD.findall(s[1]))
-                        shown = s[2] == "trait" or " for " in s[1] or is_pub
-                        if not (shown and words & names):
-                            continue
+                        shown = (s[2] == "trait" or " for " in s[1] or is_pub) and bool(set(WORD.findall(s[1])) & names)
                         name = f"{s[1]}::{w[0]}"
                     else:
-                        if not (is_pub and w[0] in names):
-                            continue
+                        shown = is_pub and w[0] in names
                         name = w[0]
                     sig = signature(strip("fn " + raw[w.start():sign]).replace(" -> ", " \0 ")).replace(" \0 ", " -> ")
                     lines = [sig] + [f"    {k} {{ {c} }}" for k, _, c in clauses]
-                    out.append(Item(crate, rel, name, "function", lines, (sig, tuple(sorted((k, c) for k, _, c in clauses)))))
+                    out.append(Item(crate, rel, name, "function", lines, (sig, tuple(sorted((k, c) for k, _, c in clauses))), shown))
                 elif word == "const":
                     if stack or not is_pub:
                         continue
@@ -455,6 +496,8 @@ def resolve(target, x, new):
     found = []
     for one in target.split(" + "):
         w = one.strip().split(" ")
+        if w[0] == "std":
+            continue
         name = w[-1].replace("\u00a0", " ")
         crate = w[0] if len(w) == 3 else x.crate
         file = w[-2] if len(w) >= 2 else None
@@ -484,7 +527,8 @@ def main(argv):
         return 2
     commit = argv[0]
     fo, fn = old_tree(commit), new_tree()
-    so, sn = sources(fo), sources(fn)
+    all_o, all_n = sources(fo), sources(fn)
+    so, sn = [x for x in all_o if x.pub], [y for y in all_n if y.pub]
     io_, in_ = items(fo), items(fn)
     rows, used, unknown = table(), set(), []
 
@@ -512,7 +556,7 @@ def main(argv):
     for x in gone:
         r = lookup(rows, x, used)
         if r and r[3] != "-":
-            hits = [(t, y) for t, y in resolve(r[3], x, sn + in_) if y is not None or unknown.append(f"{x} -> {t}")]
+            hits = [(t, y) for t, y in resolve(r[3], x, all_n + in_) if y is not None or unknown.append(f"{x} -> {t}")]
             if hits:
                 renamed.append((x, hits))
     out.append(f"## Under another name: {len(renamed)}\n")
@@ -574,7 +618,7 @@ def main(argv):
     for x in gone2:
         r = lookup(rows, x, used)
         if r and r[3] != "-":
-            hits = [(t, y) for t, y in resolve(r[3], x, in_ + sn) if y is not None or unknown.append(f"{x} -> {t}")]
+            hits = [(t, y) for t, y in resolve(r[3], x, in_ + all_n) if y is not None or unknown.append(f"{x} -> {t}")]
             if hits:
                 renamed2.append((x, hits))
     out.append(f"## Under another name: {len(renamed2)}\n")
@@ -609,6 +653,17 @@ def main(argv):
         if not r:
             left.append(x)
         out.append(f"| {x.crate} | `{x.name}` ({x.file}) | {esc(said(r))} |")
+    stand = {id(y) for _, y in pairs}
+    _, gone3, _ = match([x for x in all_o if not x.pub], [y for y in all_n if id(y) not in stand], named)
+    out.append(f"\n## Private functions: {len(gone3)}\n")
+    out += ["| crate | name | what states it now |", "| --- | --- | --- |"]
+    for x in sorted(gone3, key=lambda x: (x.crate, x.file, x.name)):
+        r = lookup(rows, x, used)
+        if not r:
+            left.append(x)
+        elif r[3] != "-":
+            unknown += [f"{x} -> {t}" for t, y in resolve(r[3], x, all_n + in_) if y is None]
+        out.append(f"| {x.crate} | `{x.name}` ({x.file}) | {esc(said(r))} |")
     out.append(f"\n## Definitions, theorems and lemmas: {len(gone2)}\n")
     for crate in sorted({x.crate for x in gone2}):
         out.append(f"### {crate}\n")
@@ -623,7 +678,7 @@ def main(argv):
             out.append(f"| {file} | {', '.join(esc(n) for n in names)} | {esc(s)} |")
         out.append("")
     write("GONE.md", out)
-    print(f"functions, types: {len(so)} -> {len(sn)}; changed {len(changed)}, gone {len(gone)}, new {len(fresh)}")
+    print(f"functions, types: {len(so)} -> {len(sn)}; changed {len(changed)}, gone {len(gone)}, new {len(fresh)}; private functions gone {len(gone3)}")
     print(f"names of specs and proofs: {len(io_)} -> {len(in_)}; definitions changed {len(defs)}, theorems changed {len(thms)}, moved {len(moved)}, gone {len(gone2)}, new {len(fresh2)}; without a line in the table: {len(left)}")
     if "--left" in argv:
         for x in left:

@@ -8,13 +8,14 @@
 What is counted, by the text alone:
  1 enums      each own enum
    codes      each parameter, field or result of type u8 (bytes in slices are not counted)
-   flags      each own struct with a bool beside other fields
+   flags      each own struct, and each tuple that is a result, with a bool beside other things
  2 twins      functions of which another has the same body and types once names, numbers and float or integer types are put alike; methods of an
-              `impl .. for ..` are instances of one trait, and not counted
+              `impl .. for ..` are instances of one trait, and not counted, nor is a body of fewer than 8 words and signs
  3 loops      each `while` and `loop`
  4 by hand    each function that only tells one literal, constant or argument from another by a test, and each named as a min, max, equality or conversion
  5 parameters each function of 8 parameters or more
-   pairs      each function with two or more of one crate's slices that always come together (starts, index, coeff, cmp, rhs; lower, upper; from, upto; w, m)
+   pairs      each function with two or more slices that come together (starts, index, coeff, cmp, rhs; lower, upper; from, upto)
+   facts      each fact, by its text, that the `requires` of three functions or more ask for
  6 lengths    each function that takes a `&mut [T]` and gives back how much of it is filled (a usize)
  7 switches   each call with a bare `true` or `false` among its arguments
  8 proofs     files and lines in crates/*/proofs, and functions that have a proof file
@@ -91,19 +92,49 @@ def shape(params, ret, body):
     text = ' '.join(p.split(':', 1)[1] if ':' in p else p for p in params) + ' ' + ret + ' ' + body
     text = re.sub(r'\b(f64|usize|u8)\b', 'Num', text)
     seen, out = {}, []
-    for t in re.findall(r'[A-Za-z_]\w*|\d[\w.]*|\S', text):
-        if re.match(r'\d', t): out.append('0')
+    for t in re.findall(r'b?"(?:[^"\\]|\\.)*"|b?\'(?:[^\'\\]|\\.)\'|[A-Za-z_]\w*|\d[\w.]*|\S', text):
+        if re.match(r'\d|b?["\']', t): out.append('0')
         elif re.match(r'[A-Za-z_]', t) and t not in WORDS and t != 'Num':
             out.append(seen.setdefault(t, 'v%d' % len(seen)))
         else: out.append(t)
     return ' '.join(out)
 
+def facts_of(text):
+    """The conjuncts of each function's `requires`, each once a function."""
+    heads = [m.start() for m in re.finditer(r'\bfn\s+\w+', text)] + [len(text)]
+    for a, b in zip(heads, heads[1:]):
+        found = set()
+        for m in re.finditer(r'\brequires\b[^{};]*\{', text[a:b]):
+            i = a + m.end()
+            clause = text[i:block(text, i - 1) - 1]
+            for part in split_on(clause, '×'):
+                part = re.sub(r'\s+', ' ', part).strip()
+                while part.startswith('(') and closes(part) == len(part) - 1: part = part[1:-1].strip()
+                if part: found.add(re.sub(r'\.(old|now|entry)\b', '', part))
+        yield from found
+
+def closes(s):
+    depth = 0
+    for i, ch in enumerate(s):
+        depth += {'(': 1, ')': -1}.get(ch, 0)
+        if depth == 0: return i
+    return -1
+
+def split_on(s, sign):
+    parts, depth, cur = [], 0, ''
+    for ch in s:
+        depth += {'(': 1, ')': -1}.get(ch, 0)
+        if ch == sign and depth == 0:
+            parts.append(cur); cur = ''
+        else: cur += ch
+    return parts + [cur]
+
 def line(text, pos):
     return text.count('\n', 0, pos) + 1
 
 def collect(root):
-    places = {k: [] for k in ('enums', 'codes', 'flags', 'twins', 'loops', 'by hand', 'parameters', 'pairs', 'lengths', 'switches')}
-    shapes = {}
+    places = {k: [] for k in ('enums', 'codes', 'flags', 'twins', 'loops', 'by hand', 'parameters', 'pairs', 'facts', 'lengths', 'switches')}
+    shapes, facts = {}, {}
     crates = os.path.join(root, 'crates')
     for c in sorted(os.listdir(crates)):
         d = os.path.join(crates, c, 'src')
@@ -125,6 +156,12 @@ def collect(root):
                     fields = [x for x in fields if 'ghost' not in x]
                     if any(re.search(r':\s*bool$', x) for x in fields) and not all(re.search(r':\s*bool$', x) for x in fields):
                         places['flags'].append(where(m.start()) + ' ' + m.group(1))
+                for m in re.finditer(r'->\s*\(([^()]*)\)', text):
+                    parts = [x.strip() for x in m.group(1).split(',')]
+                    if 'bool' in parts and any(x != 'bool' for x in parts): places['flags'].append(where(m.start()) + ' result')
+                for m in re.finditer(r'\bstruct\s+(\w+)[^;{(]*\(([^()]*)\)\s*;', text):
+                    if re.search(r'\bu8\b(?!\])', m.group(2)): places['codes'].append(where(m.start()) + ' ' + m.group(1))
+                for fact in facts_of(text): facts.setdefault(fact, []).append(os.path.relpath(path, root))
                 for m in re.finditer(r'\b(while|loop)\b(?=[^;]*\{)', text):
                     places['loops'].append(where(m.start()) + ' ' + m.group(1))
                 code = clauses_out(text)
@@ -132,12 +169,12 @@ def collect(root):
                 for pos, name, params, ret, body in functions(code):
                     w = '%s %s' % (os.path.relpath(path, root), name)
                     if len(params) >= 8: places['parameters'].append('%s %d' % (w, len(params)))
-                    names = {p.split(':')[0].replace('mut ', '').strip() for p in params}
-                    if len(names & {'starts', 'index', 'coeff', 'cmp', 'rhs'}) >= 2 or {'lower', 'upper'} <= names or {'from', 'upto'} <= {n.replace('emit_', '') for n in names} and any('[' in p for p in params):
+                    names = {p.split(':')[0].replace('mut ', '').strip() for p in params if '[' in p}
+                    if len(names & {'starts', 'index', 'coeff', 'cmp', 'rhs'}) >= 2 or {'lower', 'upper'} <= names or {'from', 'upto'} <= {n.replace('emit_', '') for n in names}:
                         places['pairs'].append(w)
                     if ret.endswith('usize') and any('&mut [' in p for p in params): places['lengths'].append(w)
                     inside = any(a <= pos < b for a, b in impls)
-                    if len(re.findall(r'\w+|\S', body)) >= 12 and not inside: shapes.setdefault(shape(params, ret, body), []).append(w)
+                    if len(re.findall(r'\w+|\S', body)) >= 8 and not inside: shapes.setdefault(shape(params, ret, body), []).append(w)
                     flat = re.sub(r'\s+', ' ', body).strip()
                     simple = r'(?:[A-Za-z_][\w:]*(?:\.\w+)?|-?\d[\w.]*)'
                     if re.fullmatch(r'(?:if [^{}]* \{ (?:return )?%s;? \} ?)+(?:else \{ )?%s ?\}?' % (simple, simple), flat) \
@@ -147,6 +184,7 @@ def collect(root):
                 for m in re.finditer(r'\b\w+\(([^()]*\b(?:true|false)\b[^()]*)\)', code):
                     if re.search(r'(^|, ?|\s)(true|false)(\s*,|\s*$)', m.group(1)) and not re.search(r'(Some|Ok|Err)\($', m.group(0)[:m.group(0).index('(') + 1]):
                         places['switches'].append(os.path.relpath(path, root) + ' ' + re.sub(r'\s+', ' ', m.group(0)))
+    places['facts'] = ['%s  (%d functions)' % (f, len(at)) for f, at in sorted(facts.items()) if len(at) >= 3]
     for ws in shapes.values():
         if len(ws) > 1: places['twins'] += ['%s  (as %s)' % (w, next(x for x in ws if x != w) if any(x != w for x in ws) else w) for w in ws]
     return places
@@ -161,7 +199,7 @@ def proofs(root):
             fns += any(f in ('Answers.antt', 'Invariants.antt', 'Proof.antt') for f in own)
     return files, lines, fns
 
-POINTS = [('1', ['enums', 'codes', 'flags']), ('2', ['twins']), ('3', ['loops']), ('4', ['by hand']), ('5', ['parameters', 'pairs']), ('6', ['lengths']), ('7', ['switches'])]
+POINTS = [('1', ['enums', 'codes', 'flags']), ('2', ['twins']), ('3', ['loops']), ('4', ['by hand']), ('5', ['parameters', 'pairs', 'facts']), ('6', ['lengths']), ('7', ['switches'])]
 
 def main():
     a = sys.argv[1:]

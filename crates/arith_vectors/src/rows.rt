@@ -3,6 +3,7 @@ use crate::bits::Bits;
 use std::{fmt, io};
 use tolerances::{Row, RowSum};
 
+// Bytes, as `tolerances` takes them: some lines ask with a byte that is none of the three.
 const EQUAL: u8 = 0;
 
 const AT_MOST: u8 = 1;

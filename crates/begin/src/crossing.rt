@@ -2,7 +2,7 @@
 ghost use Rattle.std.specs.Prelude.{◌≡◌};
 ghost use Rattle.definition.specs.Begin as definition;
 
-// = crossed
+// = crossed. Two lists and no `Input`: it asks of these two alone.
 pub(crate) fn crossed(lower: &[f64], upper: &[f64]) -> bool
     ensures { result ≡ definition.crossed lower.now upper.now }
 {

@@ -36,7 +36,8 @@ fn skip_row(m: &mut [usize], s: Shape, r: usize)
     space::count::<Dropped>(m, s);
 }
 
-// Row r joins the queue.
+// Row r joins the queue. Not bounds' `requeue`, which asks whether the row is in it: here no row is yet, and what
+// stood in the flags before is not looked at.
 fn queue_row(m: &mut [usize], s: Shape, r: usize)
     requires { (r < s.rows) × (get_or (numbers_of s m.old).queued 0 0 < s.rows) × HoldsN s m.old }
     ensures { numbers_of s m.new ≡ joined r (numbers_of s m.old) }
@@ -75,7 +76,7 @@ fn read_row(
     }
 }
 
-// = read_from
+// = read_from. Like settle's `settle_rows` by chance: each is a loop over the rows, of another step.
 pub(crate) fn read_rows(
     rows: Rows,
     w: &mut [f64],

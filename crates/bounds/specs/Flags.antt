@@ -16,6 +16,11 @@ flags_then a b = record { dec = b.dec ∙ a.dec; inc = b.inc ∙ a.inc }
 pub flags_old : (r : ℕ) {n n₁ : Numbers} → n₁ ≡ put_coeff_dirty r 1 n → FlagsKept n n₁
 flags_old r e = record { dec = ap (λ (z : Numbers). z.bad_dec) e; inc = ap (λ (z : Numbers). z.bad_inc) e }
 
+pub flags_queued : (r q x : ℕ) {n n₁ n₂ n₃ : Numbers} → n₁ ≡ put_dirty r 1 n → n₂ ≡ put_queue q r n₁ → n₃ ≡ put_queued 0 x n₂ → FlagsKept n n₃
+flags_queued r q x e₁ e₂ e₃ =
+    let e = e₃ ∙ ap (put_queued 0 x) (e₂ ∙ ap (put_queue q r) e₁) in
+    record { dec = ap (λ (z : Numbers). z.bad_dec) e; inc = ap (λ (z : Numbers). z.bad_inc) e }
+
 pub flags_new : (r q x : ℕ) {n n₁ n₂ n₃ n₄ : Numbers} → n₁ ≡ put_coeff_dirty r 1 n → n₂ ≡ put_dirty r 1 n₁ → n₃ ≡ put_queue q r n₂ → n₄ ≡ put_queued 0 x n₃ → FlagsKept n n₄
 flags_new r q x e₁ e₂ e₃ e₄ =
     let e = e₄ ∙ ap (put_queued 0 x) (e₃ ∙ ap (put_queue q r) (e₂ ∙ ap (put_dirty r 1) e₁)) in

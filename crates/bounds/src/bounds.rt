@@ -179,7 +179,8 @@ fn lower_real(
     Ok(())
 }
 
-// = is_int. The one of readers says what a model has, where stays promises a value whatever the model.
+// = is_int. Not the one of readers, which says what a model has, where stays promises a value whatever the model: one
+// function with both promises would be longer than this line.
 #[tactic(auto, unfolding(crate::specs::Moves::int_code, formulas::specs::Fixing::int_domain))]
 fn is_int(domain: &[u8], s: Shape, v: usize) -> bool
     requires { v < length domain.now }
@@ -188,8 +189,9 @@ fn is_int(domain: &[u8], s: Shape, v: usize) -> bool
     s.mip && formulas::is_int_domain(domain[v])
 }
 
-// = tighten_upper from above, tighten_lower from below. lists, w, m and s are every step's (space says why they stay apart); v, q,
-// relax and above are one implied bound.
+// = tighten_upper from above, tighten_lower from below. lists, w, m and s are every step's (space says why they stay apart). v, q,
+// relax and above are of one implied bound, and no struct: its caller asks `stays` of q before it knows what q is relaxed by, and
+// would make the struct for this one call.
 pub fn tighten(
     lists: Lists,
     w: &mut [f64],

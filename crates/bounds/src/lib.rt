@@ -11,3 +11,4 @@ mod bounds;
 mod marks;
 
 pub use bounds::{emit_bounds, fix, stays, tighten};
+pub use marks::requeue;

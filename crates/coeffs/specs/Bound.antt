@@ -17,7 +17,8 @@ use Rattle.definition.specs.Work.{Work}
 use Rattle.definition.specs.Bindings.{sum_coeffs, binding_sum, bound_with, rewritten_bound}
 use Rattle.space.specs.declared.Shape.{Shape}
 use Rattle.space.specs.Store.{Floats, Numbers}
-use Rattle.view.specs.Lists.{yes, no}
+use Rattle.view.specs.Shows.{is_one}
+use Rattle.view.specs.Lists.{yes, no, one_is, one_not}
 use Rattle.view.specs.Acts.{Reads}
 use Rattle.view.specs.Known.{Spans, Written, written_spans}
 use Rattle.readers.specs.Reading.{row_of, Alive}
@@ -120,6 +121,14 @@ unfolding rewritten_bound bound_with rhs_of op_of
 bound_some M w r b up e g = ap (bound_with M (row_of w r) r) e ∙ ap
     (λ (u : Bool). double.rounded (double.plus (binding_sum M (row_of w r) r (double.from (at M.rhs r)) b.binaries) (choose u b.kept (neg b.kept))) u)
     g
+
+code_is : (x : ℕ) → x ≡ 1 → eqb x 1 ≡ true
+unfolding is_one
+code_is x e = ap is_one e ∙ one_is
+
+code_not : (x : ℕ) → (x ≡ 1 → ⊥) → eqb x 1 ≡ false
+unfolding is_one
+code_not x e = one_not x e
 
 -- the arms of the match
 abbrev pub at_most : Comparison → Bool

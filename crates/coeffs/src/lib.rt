@@ -10,4 +10,4 @@ mod bindings;
 mod tighten;
 
 pub use bindings::{rewritten_bound, sum_coeffs};
-pub use tighten::OneSided;
+pub use tighten::{eligible, rewrite_term};

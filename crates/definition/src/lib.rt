@@ -3,8 +3,9 @@
 
 #![tactic(auto)]
 
-// The rows as they are handed in: row r's terms are those from starts[r] up to starts[r + 1], its
-// comparison 0 for Eq, 1 for Le and 2 for Ge.
+// The rows as they are handed in, list beside list as C lends them: row r's terms are those from starts[r] up to
+// starts[r + 1], its comparison 0 for Eq, 1 for Le and 2 for Ge. No method gives a row's span: it
+// would ask and say what the two indexings do, and about half of those that read one are handed the starts alone.
 #[derive(Clone, Copy)]
 pub struct Rows<'a> {
     pub starts: &'a [usize],

@@ -22,7 +22,8 @@ pub(crate) fn clear_flags(m: &mut [usize], s: Shape)
     }
 }
 
-// The term at place i, of a row with a lower bound where ge, an upper one where le.
+// The term at place i, of a row with a lower bound where ge, an upper one where le: two flags, as the definition has them, which
+// swap places for the other list.
 fn block_term(w: &[f64], m: &mut [usize], s: Shape, i: usize, ge: bool, le: bool)
     requires i_lt_terms { (i < s.terms) × HoldsF s w.now × HoldsN s m.old }
     requires i_bound { get_or (numbers_of s m.old).vars i 0 < s.vars }

@@ -49,7 +49,8 @@ fn rises(obj: &[f64], w: &[f64], m: &[usize], s: Shape, v: usize) -> bool
     formulas::may_rise(obj[v], b == 1, hi)
 }
 
-// = dual_var, of no change before: whether v was fixed
+// = dual_var, of no change before: whether v was fixed. The objective stands beside `lists` and is none of them: of all steps
+// the dual one alone reads it.
 fn dual_var(obj: &[f64], lists: Lists, w: &mut [f64], m: &mut [usize], s: Shape, v: usize) -> bool
     requires v_lt_vars { (v < s.vars) × HoldsF s w.old × HoldsN s m.old }
     requires ready { Ready (Fixing obj.now lists) s (floats_of s w.old) (numbers_of s m.old) }

@@ -28,6 +28,22 @@ is_out c = ltb 1 c
 unfoldable pub is_rewritten : ℕ → Bool
 is_rewritten c = ltb 2 c
 
+pub kept_one : {c : ℕ} → c ≡ 1 → true ≡ is_kept c
+unfolding is_kept
+kept_one e = rw e
+
+pub kept_other : {c : ℕ} → (c ≡ 1 → ⊥) → ltb 2 c ≡ is_kept c
+unfolding is_kept
+kept_other {c} ne = rw (ne_eqb c 1 ne)
+
+pub out_is : (c : ℕ) → ltb 1 c ≡ is_out c
+unfolding is_out
+out_is c = refl
+
+pub rewritten_is : (c : ℕ) → ltb 2 c ≡ is_rewritten c
+unfolding is_rewritten
+rewritten_is c = refl
+
 module _ (M : Model) (r : ℕ) where
   -- of a settled row
   unfoldable pub fate_of : Row → ℕ

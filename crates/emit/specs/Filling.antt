@@ -1,6 +1,6 @@
 -- A result slice that is written from the front: the list l over what was there.
 use Rattle.std.specs.Prelude.{ℕ, suc, ◌+◌, ◌≤◌, ◌<◌, ◌≡◌, Bool, length, get_or, take, drop}
-use Rattle.std.proofs.Common.{arith, sym, ◌∙◌, length-drop, drop-cons, take-suc, take_all, length-take-le}
+use Rattle.std.proofs.Common.{arith, sym, ◌∙◌, subst, length-drop, drop-cons, take-suc, take_all, length-take-le}
 use Rattle.std.proofs.Math.Numerals.{add-one}
 use Rattle.std.proofs.Math.Path.{refl, ap}
 use Rattle.std.proofs.Math.Bool.{true, false}
@@ -8,6 +8,7 @@ use mathlib.Core.List.{List, [], ◌∷◌, ◌++◌}
 use Rattle.std.proofs.Math.ListN.{set, length-append}
 use Rattle.std.proofs.lemmas.List.{set_at}
 use Rattle.std.proofs.Math.Seq.{append_snoc}
+use Rattle.floats.specs.Num.{choose}
 use Rattle.view.specs.Lists.{yes, no}
 use Rattle.emit.specs.Fates.{collect, collect_length}
 
@@ -42,6 +43,17 @@ module _ {A : Type 0} where
       pub fill_room : {k : ℕ} → r < k → k ≤ length old → n < length new
       fill_room {k} l m = let z = collect_length p g r in let y = fill_kept (omega (arith, l, m)) in omega (arith, z, y, F.count, l, m)
 
+      -- the turn, by whether r is taken
+      turn_list : (b : Bool) → length (collect p g r) < length old → choose b (set new n (g r)) new ≡ over (choose b (collect p g r ++ (g r ∷ [])) (collect p g r)) old
+      unfolding choose
+      turn_list true l = ap (λ (t : List A). set t n (g r)) F.list ∙ ap (λ (k : ℕ). set (over (collect p g r) old) k (g r)) F.count ∙ over_set (collect p g r) old (g r) l
+      turn_list false l = F.list
+
+      turn_count : (b : Bool) → choose b (suc n) n ≡ length (choose b (collect p g r ++ (g r ∷ [])) (collect p g r))
+      unfolding choose
+      turn_count true = let z = length-append (collect p g r) (g r ∷ []) in omega (arith, z, F.count)
+      turn_count false = F.count
+
       -- r is taken
       pub fill_one : {k : ℕ} {x : A} {new' : List A} {z : ℕ} → r < k → k ≤ length old → p r ≡ true → x ≡ g r → new' ≡ set new n x → z ≡ n + 1 → Filled p g (r + 1) old new' z
       unfolding collect
@@ -62,6 +74,9 @@ module _ {A : Type 0} where
       fill_none t a b =
           let c : collect p g (r + 1) ≡ collect p g r = rw add-one (no _ _ t) in
           record { list = a ∙ F.list ∙ ap (λ (q : List A). over q old) (sym c); count = b ∙ F.count ∙ ap length (sym c) }
+
+      pub fill_end : {k : ℕ} → r ≤ k → k ≤ r → Filled p g k old new n
+      fill_end {k} l m = let z : r ≡ k = omega (arith, l, m) in subst (λ (j : ℕ). Filled p g j old new n) z F
 
 -- ---- a whole block of n, place by place: the first v places are written
 pub record Copied {A : Type 0} (l old : List A) (n v : ℕ) (new : List A) : Type 0 where

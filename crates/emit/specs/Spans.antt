@@ -1,5 +1,5 @@
 -- The spans of emitted rows, and what the writers of spans and terms ask of the slices.
-use Rattle.std.specs.Prelude.{ℕ, zero, suc, ◌+◌, ◌≤◌, ◌<◌, ◌≡◌, refl, true, false, List, length, get_or}
+use Rattle.std.specs.Prelude.{ℕ, zero, suc, ◌+◌, ◌≤◌, ◌<◌, ◌≡◌, refl, Bool, true, false, List, length, get_or}
 use Rattle.std.proofs.Common.{arith, add-one, ap, ◌∙◌}
 use Rattle.std.proofs.Math.Path.{sym}
 use Rattle.floats.specs.Num.{choose}
@@ -8,7 +8,7 @@ use Rattle.space.specs.Store.{Numbers}
 use Rattle.view.specs.Inv.{Below}
 use Rattle.view.specs.Lists.{yes, no, either}
 use Rattle.readers.specs.Coeffs.{place_of}
-use Rattle.emit.specs.Fates.{rewritten_at}
+use Rattle.emit.specs.Fates.{is_rewritten, rewritten_at}
 
 -- how many terms row r has at work, the folded ones with them
 abbrev pub count_at : Numbers → ℕ → ℕ
@@ -49,6 +49,10 @@ terms_before {ss = ss} {n} h (suc r) p =
     either (λ (k : ℕ). k ≤ get_or ss (suc r) 0) (rewritten_at n.fate r)
     (λ t. let y = h.fits r (omega (arith, p)) t in omega (arith, z, e, y))
     (λ t. let y = h.rise r (omega (arith, p)) in omega (arith, z, e, y))
+
+module _ (n : Numbers) (r : ℕ) {c : ℕ} {k : Bool} (e : c ≡ get_or n.fate r 0) (f : k ≡ is_rewritten c) where
+  fate_is : {b : Bool} → k ≡ b → rewritten_at n.fate r ≡ b
+  fate_is t = sym (ap is_rewritten e) ∙ sym f ∙ t
 
 -- ---- terms_with and span_of
 module _ (n : Numbers) (r : ℕ) where

@@ -6,7 +6,7 @@ ghost use Rattle.emit.specs.Filling.{over};
 
 use space::{Ehi, Elo, Shape};
 
-// = lower and upper of Reduced, at the front of the slices. A `for` over the variables: space alone knows
+// = lower and upper of Reduced, at the front of the two slices that C lends. A `for` over the variables: space alone knows
 // where a bound stands in w, so there is no slice of w to go over beside them.
 pub fn write_bounds(w: &[f64], s: Shape, lower: &mut [f64], upper: &mut [f64])
     requires { HoldsF s w.now × (s.vars ≤ length lower.old) × (s.vars ≤ length upper.old) }
@@ -19,7 +19,7 @@ pub fn write_bounds(w: &[f64], s: Shape, lower: &mut [f64], upper: &mut [f64])
     }
 }
 
-// = whether a bound is another number now than in the model
+// = whether a bound is another number now than in the model. Two lists and no `Input`: it asks of these two alone.
 pub fn bounds_changed(lower: &[f64], upper: &[f64], w: &[f64], s: Shape) -> bool
     requires { HoldsF s w.now × (length lower.now ≡ s.vars) × (length upper.now ≡ s.vars) }
     ensures { result ≡ (not (same_bounds (floats_of s w.now).elo lower.now) || not (same_bounds (floats_of s w.now).ehi upper.now)) }

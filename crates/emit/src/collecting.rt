@@ -8,7 +8,8 @@ ghost use Rattle.emit.specs.FateNumbers.{Writes};
 use crate::fates::{Fate, fate_of};
 use space::Shape;
 
-// The values of the rows whose fate passes the test. How many there are.
+// The values of the rows whose fate passes the test. How many there are. A `for` with a place beside it: the rows that
+// pass are fewer than the rows that are looked at, so no `zip` gives both places.
 pub(crate) fn collect<T: Copy, P: Fn(Fate) -> bool, V: Fn(usize, Fate) -> T>(
     m: &[usize],
     s: Shape,

@@ -9,7 +9,7 @@ use crate::collecting::collect;
 use crate::fates::fate_of;
 use space::{Bound, Shape};
 
-// = row and rewritten of emitted, at the front of the slices. How many there are.
+// = row and rewritten of emitted, at the front of the two slices that C lends. How many there are.
 pub fn write_emitted(m: &[usize], s: Shape, row: &mut [usize], rewritten: &mut [u8]) -> usize
     requires { HoldsN s m.now × (s.rows ≤ length row.old) × (s.rows ≤ length rewritten.old) }
     ensures filled { Filled (out_at (numbers_of s m.now).fate) self s.rows row.old row.new result }
@@ -30,7 +30,7 @@ fn side(rhs: &[f64], w: &[f64], m: &[usize], s: Shape, r: usize) -> f64
     rhs[r]
 }
 
-// = rhs of emitted, at the front of the slice. How many there are.
+// = rhs of emitted, at the front of the slice that C lends. How many there are.
 pub fn write_rhs(rhs: &[f64], w: &[f64], m: &[usize], s: Shape, out: &mut [f64]) -> usize
     requires { HoldsF s w.now × HoldsN s m.now × (s.rows ≤ length rhs.now) × (s.rows ≤ length out.old) }
     ensures { Filled (out_at (numbers_of s m.now).fate) (side_at (numbers_of s m.now).fate (floats_of s w.now).bound

@@ -38,7 +38,7 @@ impl From<Fate> for usize {
 }
 
 impl Fate {
-    // Whether a row of this fate is kept for validation.
+    // Whether a row of this fate is kept for validation. It and `is_out` are alike by chance: each is a test of its own.
     pub(crate) fn is_kept(self) -> bool
         ensures { result ≡ keeps self }
     {
@@ -59,7 +59,7 @@ impl Fate {
         matches!(self, Fate::Rewritten)
     }
 
-    // The mark of a row of this fate, where it is emitted: 0 written, 1 rewritten.
+    // The mark of a row of this fate, where it is emitted: 0 written, 1 rewritten. A byte, as C's `emit_rewritten` has it.
     pub(crate) fn mark(self) -> u8
         ensures { result ≡ mark (rewrites self) }
     {

@@ -7,7 +7,7 @@ ghost use Rattle.emit.specs.Filling.{Filled};
 use crate::collecting::collect;
 use space::Shape;
 
-// = kept of Reduced, at the front of the slice. How many there are.
+// = kept of Reduced, at the front of the slice that C lends. How many there are.
 pub fn write_kept(m: &[usize], s: Shape, kept: &mut [usize]) -> usize
     requires { HoldsN s m.now × (s.rows ≤ length kept.old) }
     ensures { Filled (kept_at (numbers_of s m.now).fate) self s.rows kept.old kept.new result }

@@ -45,7 +45,7 @@ fn span_of(
     starts[r]..starts[r + 1]
 }
 
-// = from and upto of emitted, at the front of the slices. How many there are. (Not by `collect`: where a
+// = from and upto of emitted, at the front of the two slices that C lends. How many there are. (Not by `collect`: where a
 // rewritten row's span starts is by the rows before it.)
 pub fn write_spans(
     starts: &[usize],

@@ -28,6 +28,14 @@ abbrev pub listed : ℕ → ℕ → List ℕ → List ℕ
 listed a k l = take k (drop a l)
 
 -- ---- has_among
+has_yes : (u v : ℕ) (us : List ℕ) → u ≡ v → has v (u ∷ us) ≡ true
+unfolding has
+has_yes u v us e = rw (eqb_same u v e)
+
+has_no : (u v : ℕ) (us : List ℕ) → (u ≡ v → ⊥) → has v (u ∷ us) ≡ has v us
+unfolding has
+has_no u v us e = rw (eqb_differ u v e)
+
 has_none : (v : ℕ) → has v [] ≡ false
 unfolding has
 has_none v = refl
@@ -36,6 +44,17 @@ module _ (a k v : ℕ) (l : List ℕ) (long : a + k ≤ length l) where
   among_next : (i u : ℕ) → i < k → u ≡ get_or l (a + i) 0 → drop i (listed a k l) ≡ u ∷ drop (suc i) (listed a k l)
   among_next i u q e =
       drop-cons (listed a k l) i 0 (omega (arith, q, span_length l a k long)) ∙ ap (λ (y : ℕ). y ∷ drop (suc i) (listed a k l)) (span_at l a k i 0 q ∙ sym e)
+
+  pub among_found : {i u : ℕ} → has v (drop i (listed a k l)) ≡ has v (listed a k l) → i < k → u ≡ get_or l (a + i) 0 → u ≡ v → true ≡ has v (listed a k l)
+  among_found {i} {u} h q e g = sym (sym h ∙ ap (has v) (among_next i u q e) ∙ has_yes u v _ g)
+
+  pub among_more : {i u : ℕ} → has v (drop i (listed a k l)) ≡ has v (listed a k l) → i < k → u ≡ get_or l (a + i) 0 → (u ≡ v → ⊥) → has v (drop (i + 1) (listed a k l)) ≡ has v (listed a k l)
+  among_more {i} {u} h q e g = rw add-one (sym (has_no u v (drop (suc i) (listed a k l)) g) ∙ ap (has v) (sym (among_next i u q e)) ∙ h)
+
+  pub among_end : {i : ℕ} → has v (drop i (listed a k l)) ≡ has v (listed a k l) → k ≤ i → i ≤ k → false ≡ has v (listed a k l)
+  among_end {i} h p q =
+      let e : i ≡ length (listed a k l) = omega (arith, p, q, span_length l a k long) in
+      sym (has_none v) ∙ ap (has v) (sym (drop-length (listed a k l)) ∙ ap (λ (j : ℕ). drop j (listed a k l)) (sym e)) ∙ h
 
   among_first : (i : ℕ) → i < k → (eqb (get_or l (a + i) 0) v || has v (drop (i + 1) (listed a k l))) ≡ has v (drop i (listed a k l))
   unfolding has

@@ -29,6 +29,14 @@ use Rattle.folds.specs.Folding.{swap_f, swap_n, push_f, push_n, shift_f, with_fo
 unfoldable pub fixed_in : Floats → ℕ → Bool
 fixed_in f v = eq (get_or f.elo v nan) (get_or f.ehi v nan) && is_finite (get_or f.elo v nan)
 
+pub fixed_yes : (f : Floats) (v : ℕ) {lo hi : Float} {z : Bool} → lo ≡ get_or f.elo v nan → hi ≡ get_or f.ehi v nan → eq lo hi ≡ true → z ≡ is_finite lo → z ≡ fixed_in f v
+unfolding fixed_in
+fixed_yes f v e₁ e₂ t ez = rw (← e₁, ← e₂, t, ez)
+
+pub fixed_no : (f : Floats) (v : ℕ) {lo hi : Float} → lo ≡ get_or f.elo v nan → hi ≡ get_or f.ehi v nan → eq lo hi ≡ false → false ≡ fixed_in f v
+unfolding fixed_in
+fixed_no f v e₁ e₂ t = rw (← e₁, ← e₂, t)
+
 pub fixed_both : (f : Floats) (v : ℕ) {lo hi : Float} {z : Bool} → lo ≡ get_or f.elo v nan → hi ≡ get_or f.ehi v nan → z ≡ fixed_at lo hi → z ≡ fixed_in f v
 unfolding fixed_in fixed_at
 fixed_both f v e₁ e₂ ez = rw (← e₁, ← e₂) ez

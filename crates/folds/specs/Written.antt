@@ -6,7 +6,7 @@ use mathlib.Core.List.{List, [], ◌∷◌}
 use Rattle.std.proofs.Math.Dec.{eqb-suc-suc, eqb-suc-zero, eqb-zero-suc}
 use Rattle.std.proofs.Math.ListN.{get_or}
 use Rattle.std.proofs.Math.Seq.{get_or-set_same}
-use Rattle.std.specs.Float.Ieee.{nan}
+use Rattle.std.specs.Float.Ieee.{nan, neg, of_bits}
 use Rattle.floats.specs.Num.{choose, 0f, ∞f, -∞f}
 use Rattle.tolerances.specs.Tol.{term, at, zip_terms}
 use Rattle.tolerances.specs.declared.Comparison.{Comparison}
@@ -20,7 +20,7 @@ use Rattle.space.specs.Store.{Floats, Numbers, put_lo, put_hi, put_fold_scale, p
 use Rattle.view.specs.Call.{Call}
 use Rattle.view.specs.Shows.{is_one, Parts, parts_of, TermShown, unbound, RowShown}
 use Rattle.view.specs.Known.{Written}
-use Rattle.view.specs.Lists.{one_is, zero_is}
+use Rattle.view.specs.Lists.{yes, no, one_is, zero_is}
 use Rattle.view.specs.Rows.{same?, OneRow}
 use Rattle.folds.specs.Apart.{Apart, elsewhere, untouched, outside, nnz_is, other_shown}
 use Rattle.folds.specs.Sized.{Sized}
@@ -43,6 +43,17 @@ pub record Given (P : Model → Type 0) (s : Shape) : Type 0 where
   pub model : Model
   pub known : P model
   pub call : Call model s
+
+-- ---- a side by its comparison, as the tests say it
+pub side_yes : (x k : ℕ) {A : Type 0} (u v : A) → x ≡ k → u ≡ choose (eqb x k) u v
+side_yes x k u v e = sym (yes u v (eqb_same x k e))
+
+pub side_no : (x k : ℕ) {A : Type 0} (u v : A) → (x ≡ k → ⊥) → v ≡ choose (eqb x k) u v
+side_no x k u v e = sym (no u v (eqb_differ x k e))
+
+pub below_inf : {x : Float} → x ≡ ∞f → neg x ≡ -∞f
+unfolding neg of_bits
+below_inf e = ap neg e
 
 -- ---- the two sides by the comparison and the right side b
 abbrev pub sides_of : ℕ → Float → Float × Float
@@ -221,6 +232,31 @@ pub marks_put_lem : (r k : ℕ) (n : Numbers) {n₁ n₂ n₃ n₄ n₅ : Number
     → n₄ ≡ put_touched r 0 n₃ → n₅ ≡ put_binaries r 0 n₄ → n₅ ≡ marks_put r k n
 marks_put_lem r k n e₁ e₂ e₃ e₄ e₅ = rw (e₅, e₄, e₃, e₂, e₁)
 
+-- how long the model's lists are, each by itself, and what their places have
+module _ {s : Shape} {M : Model} (c : Call M s) where
+  pub starts_long : {starts : List ℕ} → M.starts ≡ starts → s.rows + 1 ≤ length starts
+  starts_long e = omega (arith, ap length e, c.starts, c.rows)
+
+  pub cmp_long : {cmp : List ℕ} → M.cmp ≡ cmp → s.rows ≤ length cmp
+  cmp_long e = omega (arith, ap length e, c.cmps, c.rows)
+
+  pub rhs_long : {rhs : List Float} → M.rhs ≡ rhs → s.rows ≤ length rhs
+  rhs_long e = omega (arith, ap length e, c.rows)
+
+  pub index_long : {index : List ℕ} → M.index ≡ index → s.terms ≤ length index
+  index_long e = omega (arith, ap length e, c.terms)
+
+  pub index_under : {index : List ℕ} {k n : ℕ} → M.index ≡ index → k < s.terms → s.vars ≤ n → get_or index k 0 < n
+  index_under {k = k} e p q = omega (arith, q, ap (λ (l : List ℕ). get_or l k 0) e, c.index k (omega (arith, p, c.terms)), c.vars)
+
+  pub starts_rise : {starts : List ℕ} {r : ℕ} → M.starts ≡ starts → r < s.rows → get_or starts r 0 ≤ get_or starts (r + 1) 0
+  unfolding from upto
+  starts_rise {r = r} e p = rw (← e) (c.rise r (omega (arith, p, c.rows)))
+
+  pub starts_within : {starts : List ℕ} {r : ℕ} → M.starts ≡ starts → r < s.rows → get_or starts (r + 1) 0 ≤ s.terms
+  unfolding upto
+  starts_within {r = r} e p = rw (← e) (let z = c.last r (omega (arith, p, c.rows)) in omega (arith, z, c.terms))
+
 module _ {s : Shape} {rows : Rows} where
   -- what the read-only slices hold of row r
   module _ (G : Given (Written rows) s) {r : ℕ} (p : r < s.rows) where
@@ -229,18 +265,6 @@ module _ {s : Shape} {rows : Rows} where
 
     in_rows : r < length M₀.rhs
     in_rows = omega (arith, p, G.call.rows)
-
-    pub starts_long : s.rows + 1 ≤ length rows.starts.now
-    starts_long = omega (arith, ap length G.known.starts, G.call.starts, G.call.rows)
-
-    pub cmp_long : s.rows ≤ length rows.cmp.now
-    cmp_long = omega (arith, ap length G.known.cmp, G.call.cmps, G.call.rows)
-
-    pub rhs_long : s.rows ≤ length rows.rhs.now
-    rhs_long = omega (arith, ap length G.known.rhs, G.call.rows)
-
-    pub index_long : s.terms ≤ length rows.index.now
-    index_long = omega (arith, ap length G.known.index, G.call.terms)
 
     pub coeff_long : s.terms ≤ length rows.coeff.now
     coeff_long = omega (arith, ap length G.known.coeff, G.call.terms, G.call.coeffs)

@@ -53,8 +53,8 @@ pub fn fixed_besides(starts: &[usize], w: &[f64], m: &[usize], s: Shape, r: usiz
     let k = space::get::<Binaries>(m, s, r);
     let n = space::get::<Folded>(m, s, r);
     let mut sum = 0.0;
-    for j in 0..n {
-        sum = fixed_term(w, m, s, a, k, e - (j + 1), sum);
+    for i in (e - n..e).rev() {
+        sum = fixed_term(w, m, s, a, k, i, sum);
     }
     sum
 }

@@ -11,7 +11,8 @@ use definition::Rows;
 use space::{Alive, Binaries, Coeffs, FoldScale, Folded, Hi, Len, Lo, Shape, Shift, Touched, Vars};
 use tolerances::Comparison;
 
-// The input's terms from place a up to e, all live.
+// The input's terms from place a up to e, all live. A `for` over places: they are written to as well as read, and space
+// alone knows where a term stands in w and m.
 fn write_terms(rows: Rows, w: &mut [f64], m: &mut [usize], s: Shape, a: usize, e: usize)
     requires a_le_e { (a ≤ e) × (e ≤ s.terms) × (s.terms ≤ length rows.index.now) × (s.terms ≤ length rows.coeff.now) }
     requires holds_f { HoldsF s w.old × HoldsN s m.old }

@@ -1,7 +1,10 @@
 -- Whether a row forces its variables, by the ways through the code.
-use Rattle.std.specs.Prelude.{ℕ, suc, ◌+◌, ◌-◌, ◌≤◌, ◌<◌, ◌≡◌, refl, ◌⊎◌, Bool, true, false, ◌&&◌, List, [], ◌∷◌, length, get_or, drop, Float}
-use Rattle.std.proofs.Common.{arith, add-one, ap, sym, ◌∙◌, inl, inr, drop_of_length-le, drop-cons}
+use Rattle.std.specs.Prelude.{ℕ, zero, suc, ◌+◌, ◌-◌, ◌<◌, ◌≡◌, refl, ◌⊎◌, Bool, true, false, ◌&&◌, List, [], ◌∷◌, length, get_or, Float}
+use Rattle.std.proofs.Common.{arith, ap, sym, subst, ◌∙◌, inl, inr}
 use Rattle.std.specs.Float.{nan}
+use Rattle.std.specs.Bool.{MatchBool}
+use Rattle.std.specs.List.{range_with_len, AllWithin, HoldsAt}
+use Rattle.std.proofs.lemmas.List.FromFn.{length-range_with_len, get_or-range_with_len}
 use borrow.Author.Tests.{eq-eqb, ne_eqb}
 use Rattle.floats.specs.Num.{choose, ◌⊖◌}
 use Rattle.tolerances.specs.Tol.{Term, term}
@@ -28,11 +31,6 @@ use Rattle.readers.specs.Limits.{ReadsLimits}
 use Rattle.readers.specs.RowAt.{row_at, row_ready, live_place}
 use Rattle.rows.specs.Knowing.{Looks, looks_spans, looks_domains, of_limits}
 
--- x is of row r, as the floats and the rows' spans have it
-pub record LimitsOf (lists : Lists) (s : Shape) (f : Floats) (r : ℕ) (x : Limits) : Type 0 where
-  pub read : ReadsLimits s f r x.terms x
-  pub written : x.terms ≡ get_or lists.rows.starts.now (r + 1) 0 - get_or lists.rows.starts.now r 0
-
 -- ---- forced_term
 pub forced_is : {lists : Lists} {s : Shape} {f : Floats} (r v : ℕ) (a sliver mag : Float) {x : Limits} {k : ℕ} {int z : Bool} {lo hi : Float}
     → ReadsLimits s f r k x → k ≡ get_or lists.rows.starts.now (r + 1) 0 - get_or lists.rows.starts.now r 0 → ReadsM (Domains lists.domain.now) s int (λ M. is_int M v)
@@ -57,54 +55,63 @@ pub live_small : {P : Model → Type 0} {s : Shape} {f : Floats} {n : Numbers} {
     → r < s.rows → Alive n r → l ≡ get_or n.len r 0 → i < l → get_or ss r 0 + i < 65536
 live_small {i = i} R q p a el il = omega (arith, live_place R q p a {j = i} (omega (arith, el, il)), (row_ready R q p a).small)
 
--- the terms from i on are left
-pub record Testing (lists : Lists) (s : Shape) (f : Floats) (n : Numbers) (r : ℕ) (sliver mag : Float) (i : ℕ) : Type 0 where
-  pub rest : (M : Model) (o : List ℕ) (k : ℕ) (w : Work) → Looks lists M → Call M s → Shows M f n o w → Inv M k w
-      → all_forced M r sliver mag w (drop i (row_of w r).terms) ≡ all_forced M r sliver mag w (row_of w r).terms
+module _ (M : Model) (r : ℕ) (sliver mag : Float) (w : Work) where
+  all_pass : (ts : List Term) → ((i : ℕ) → i < length ts → forced_term M r sliver mag w (get_or ts i no_term) ≡ true) → all_forced M r sliver mag w ts ≡ true
+  all_pass [] e = forced_none M r sliver mag w
+  all_pass (t ∷ ts) e = forced_cons M r sliver mag w t ts ∙ (λ x. e 0 (omega arith) x && all_pass ts (λ i q. e (suc i) (omega (arith, q))) x)
 
-pub testing_start : {lists : Lists} {s : Shape} {f : Floats} {n : Numbers} {r : ℕ} {sliver mag : Float} → Testing lists s f n r sliver mag 0
-testing_start = record { rest = λ M o k w p c h i. refl }
+  one_fails : (ts : List Term) (i : ℕ) → i < length ts → forced_term M r sliver mag w (get_or ts i no_term) ≡ false → all_forced M r sliver mag w ts ≡ false
+  one_fails [] i q e = absurd (omega arith)
+  one_fails (t ∷ ts) zero q e = forced_cons M r sliver mag w t ts ∙ ap (λ (b : Bool). b && all_forced M r sliver mag w ts) e
+  one_fails (t ∷ ts) (suc i) q e = forced_cons M r sliver mag w t ts ∙ ap (λ (b : Bool). forced_term M r sliver mag w t && b) (one_fails ts i (omega arith) e) ∙ and_false (forced_term M r sliver mag w t)
+    where
+      and_false : (b : Bool) → (b && false) ≡ false
+      and_false true = refl
+      and_false false = refl
 
-module _ {lists : Lists} {s : Shape} {f : Floats} {n : Numbers} {r : ℕ} {sliver mag : Float} {i : ℕ} (p : r < s.rows) (a : Alive n r) (T : Testing lists s f n r sliver mag i) where
-  module _ {l v : ℕ} {y : Float} {b : Bool} (el : l ≡ get_or n.len r 0) (il : i < l) (ev : v ≡ get_or n.vars (get_or lists.rows.starts.now r 0 + i) 0) (ey : y ≡ get_or f.coeffs (get_or lists.rows.starts.now r 0 + i) nan)
-      (t : ReadsF (Looks lists) s f b (λ M w. forced_term M r sliver mag w (term v y))) where
-    left_is : {M : Model} {o : List ℕ} {k : ℕ} {w : Work} → Looks lists M → Call M s → Shows M f n o w → Inv M k w
-        → (b && all_forced M r sliver mag w (drop (suc i) (row_of w r).terms)) ≡ all_forced M r sliver mag w (row_of w r).terms
-    left_is {M} {o} {k} {w} q c h j =
-        let ts = (row_of w r).terms in
-        let d = row_at c h p a j (looks_spans M q) in
-        let m : i < length ts = omega (arith, il, el, d.len) in
-        let u = d.terms i m in
-        let bv : (get_or ts i no_term).var ≡ v = sym u.var ∙ sym ev in
-        let by : (get_or ts i no_term).coeff ≡ y = sym u.coeff ∙ sym ey in
-        let bt : get_or ts i no_term ≡ term v y = λ x. term (bv x) (by x) in
-        ap (λ (x : Bool). x && all_forced M r sliver mag w (drop (suc i) ts)) (sym (t.reads M n o k w q c h j))
-        ∙ sym (forced_cons M r sliver mag w (term v y) (drop (suc i) ts))
-        ∙ ap (all_forced M r sliver mag w) (sym (drop-cons ts i no_term m ∙ ap (λ (x : Term). x ∷ drop (suc i) ts) bt))
-        ∙ T.rest M o k w q c h j
+-- the i-th live term, and what is read of it
+abbrev live_term : List ℕ → Floats → Numbers → ℕ → ℕ → Term
+live_term ss f n r i = term (get_or n.vars (get_or ss r 0 + i) 0) (get_or f.coeffs (get_or ss r 0 + i) nan)
 
-    pub testing_turn : b ≡ true → Testing lists s f n r sliver mag (i + 1)
-    testing_turn e =
-        record {
-          rest = λ M o k w q c h j.
-              let ts = (row_of w r).terms in
-              ap (λ (x : ℕ). all_forced M r sliver mag w (drop x ts)) (add-one i) ∙ ap (λ (x : Bool). x && all_forced M r sliver mag w (drop (suc i) ts)) (sym e) ∙ left_is q c h j;
-        }
+pub record Told (lists : Lists) (s : Shape) (f : Floats) (n : Numbers) (r : ℕ) (sliver mag : Float) (z : Bool) (i : ℕ) : Type 0 where
+  pub told : ReadsF (Looks lists) s f z (λ M w. forced_term M r sliver mag w (live_term lists.rows.starts.now f n r i))
 
-    pub testing_fails : b ≡ false → Reads (Looks lists) s f n false (λ M w. all_forced M r sliver mag w (row_of w r).terms)
-    testing_fails e =
-        record {
-          reads = λ M o k w q c h j. sym (left_is q c h j) ∙ ap (λ (x : Bool). x && all_forced M r sliver mag w (drop (suc i) (row_of w r).terms)) e;
-        }
+pub told_of : {lists : Lists} {s : Shape} {f : Floats} {n : Numbers} {r i v : ℕ} {sliver mag y : Float} {z b : Bool} → ReadsF (Looks lists) s f b (λ M w. forced_term M r sliver mag w (term v y))
+    → z ≡ b → v ≡ get_or n.vars (get_or lists.rows.starts.now r 0 + i) 0 → y ≡ get_or f.coeffs (get_or lists.rows.starts.now r 0 + i) nan → Told lists s f n r sliver mag z i
+told_of t ez ev ey = record { told = record { reads = λ M n o k w p c h i. cc (ez, ev, ey, t.reads M n o k w p c h i) } }
 
-  pub testing_end : {l : ℕ} → l ≡ get_or n.len r 0 → l ≤ i → Reads (Looks lists) s f n true (λ M w. all_forced M r sliver mag w (row_of w r).terms)
-  testing_end el il =
+module _ {lists : Lists} {s : Shape} {f : Floats} {n : Numbers} {r l : ℕ} (p : r < s.rows) (a : Alive n r) (el : l ≡ get_or n.len r 0) (sliver mag : Float) where
+  module _ {M : Model} {o : List ℕ} {k : ℕ} {w : Work} (q : Looks lists M) (c : Call M s) (h : Shows M f n o w) (j : Inv M k w) where
+    asked_of : {z : Bool} (i : ℕ) → i < length (row_of w r).terms → Told lists s f n r sliver mag z i → forced_term M r sliver mag w (get_or (row_of w r).terms i no_term) ≡ z
+    asked_of i m t =
+        let u = (row_at c h p a j (looks_spans M q)).terms i m in
+        let ev = sym u.var in
+        let ey = sym u.coeff in
+        let e : get_or (row_of w r).terms i no_term ≡ live_term lists.rows.starts.now f n r i = λ x. term (ev x) (ey x) in
+        ap (forced_term M r sliver mag w) e ∙ t.told.reads M n o k w q c h j
+
+    len_of : length (row_of w r).terms ≡ l
+    len_of = omega (arith, el, (row_at c h p a j (looks_spans M q)).len)
+
+  at_range : {z : Bool} (i : ℕ) → i < l → Told lists s f n r sliver mag z (get_or (range_with_len 0 l) i 0) → Told lists s f n r sliver mag z i
+  at_range {z} i m t = let e : get_or (range_with_len 0 l) i 0 ≡ i = omega (arith, get_or-range_with_len 0 l i 0 m) in subst (Told lists s f n r sliver mag z) e t
+
+  pub all_forced_is : (z : Bool) → MatchBool z (AllWithin (Told lists s f n r sliver mag true) (range_with_len 0 l) 0 (length (range_with_len 0 l)))
+      ((i : ℕ) × (i < length (range_with_len 0 l)) × HoldsAt (Told lists s f n r sliver mag false) (range_with_len 0 l) i)
+      → Reads (Looks lists) s f n z (λ M w. all_forced M r sliver mag w (row_of w r).terms)
+  all_forced_is true e =
       record {
         reads = λ M o k w q c h j.
-            let ts = (row_of w r).terms in
-            let d = row_at c h p a j (looks_spans M q) in
-            let e : drop i ts ≡ [] = drop_of_length-le ts {i = i} (omega (arith, il, el, d.len)) in
-            sym (T.rest M o k w q c h j) ∙ ap (all_forced M r sliver mag w) e ∙ forced_none M r sliver mag w;
+            all_pass M r sliver mag w (row_of w r).terms
+            (λ i m. let b : i < l = omega (arith, m, len_of q c h j) in
+            asked_of q c h j i m (at_range i b (e i 0 (omega arith) (omega (arith, b, length-range_with_len 0 l)))));
+      }
+  all_forced_is false (i, m, e) =
+      record {
+        reads = λ M o k w q c h j.
+            let b : i < l = omega (arith, m, length-range_with_len 0 l) in
+            let m' : i < length (row_of w r).terms = omega (arith, b, len_of q c h j) in
+            one_fails M r sliver mag w (row_of w r).terms i m' (asked_of q c h j i m' (at_range i b (e 0)));
       }
 
 -- ---- forcing_at

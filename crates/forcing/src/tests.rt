@@ -7,20 +7,12 @@ ghost use Rattle.definition.specs.Forcing as definition;
 ghost use Rattle.space.specs.Store.{floats_of, numbers_of, HoldsF, HoldsN};
 ghost use Rattle.view.specs.Acts.{Ready, Reads};
 ghost use Rattle.readers.specs.Reading.{row_of, Alive, ReadsF};
-ghost use Rattle.rows.specs.Knowing.{Looks};
-ghost use Rattle.forcing.specs.Forced.{LimitsOf};
+ghost use Rattle.rows.specs.Knowing.{Looks, LimitsOf};
 
 use definition::Activity;
-use formulas::Limits;
+use formulas::{Limits, Sliver};
 use space::{Coeffs, Ehi, Elo, Len, Shape, Vars, get};
 use view::Lists;
-
-// How far the corner of a row is short of the row's bound, and the magnitude that was summed for it.
-#[derive(Clone, Copy)]
-struct Sliver {
-    gap: f64,
-    mag: f64,
-}
 
 // = forced_term. lists, w, s and r are every step's (space says why they stay apart), x and sliver the row's. v and a, one term, are
 // read out of two slices and asked for by different calls.
@@ -35,16 +27,16 @@ fn forced_term(
     a: f64,
 ) -> bool
     requires v_lt_vars { (v < s.vars) × HoldsF s w.now × (v < length lists.domain.now) }
-    requires limits { LimitsOf lists s (floats_of s w.now) r x }
+    requires limits { LimitsOf lists.rows.starts.now s (floats_of s w.now) r x }
     ensures { ReadsF (Looks lists.entry) s (floats_of s w.now) result (λ M u. definition.forced_term M r sliver.gap sliver.mag u (term v a)) }
 {
     let int = readers::is_int(lists.domain, s, v);
     let lo = get::<Elo>(w, s, v);
     let hi = get::<Ehi>(w, s, v);
-    x.forced(int, a, lo, hi, sliver.gap, sliver.mag)
+    x.forced(int, a, lo, hi, sliver)
 }
 
-// = all_forced. A loop and no `all`, whose closure would have to state forced_term's `requires` again.
+// = all_forced
 fn all_forced(
     lists: Lists,
     w: &[f64],
@@ -56,19 +48,23 @@ fn all_forced(
 ) -> bool
     requires r_lt_rows { (r < s.rows) × HoldsF s w.now × HoldsN s m.now × Alive (numbers_of s m.now) r }
     requires ready { Ready (Looks lists) s (floats_of s w.now) (numbers_of s m.now) }
-    requires limits { LimitsOf lists s (floats_of s w.now) r x }
+    requires limits { LimitsOf lists.rows.starts.now s (floats_of s w.now) r x }
     ensures { Reads (Looks lists.entry) s (floats_of s w.now) (numbers_of s m.now) result
         (λ M u. definition.all_forced M r sliver.gap sliver.mag u (row_of u r).terms) }
 {
     let a = lists.rows.starts[r];
-    for i in 0..get::<Len>(m, s, r) {
-        let v = get::<Vars>(m, s, a + i);
-        let c = get::<Coeffs>(w, s, a + i);
-        if !forced_term(lists, w, s, r, x, sliver, v, c) {
-            return false;
-        }
-    }
-    true
+    (0..get::<Len>(m, s, r)).all(|i| {
+        forced_term(
+            lists,
+            w,
+            s,
+            r,
+            x,
+            sliver,
+            get::<Vars>(m, s, a + i),
+            get::<Coeffs>(w, s, a + i),
+        )
+    })
 }
 
 // = forcing_at
@@ -83,15 +79,16 @@ fn forcing_at(
 ) -> bool
     requires r_lt_rows { (r < s.rows) × HoldsF s w.now × HoldsN s m.now × Alive (numbers_of s m.now) r }
     requires ready { Ready (Looks lists) s (floats_of s w.now) (numbers_of s m.now) }
-    requires limits { LimitsOf lists s (floats_of s w.now) r x }
+    requires limits { LimitsOf lists.rows.starts.now s (floats_of s w.now) r x }
     ensures { Reads (Looks lists.entry) s (floats_of s w.now) (numbers_of s m.now) result
         (λ M u. definition.forcing_at M r sliver.gap sliver.mag u (row_of u r).terms) }
 {
-    x.sliver_fits(sliver.gap, sliver.mag) && all_forced(lists, w, m, s, r, x, sliver)
+    x.sliver_fits(sliver) && all_forced(lists, w, m, s, r, x, sliver)
 }
 
 // = forces_min of the minimum corner, forces_max of the maximum corner: a bool, as the definition's `corner` has it. lists, w, m, s
-// and r are every step's (space says why they stay apart); act and e are the row's two activities.
+// and r are every step's (space says why they stay apart). act and e are the row's two activities, over two boxes: a struct of the
+// two would be made for its two calls alone.
 // The corners' blocks stand beside each other: all that they read, near_min and near_max, l and u, hi and lo, differs.
 pub fn forces(
     lists: Lists,
@@ -108,7 +105,7 @@ pub fn forces(
     ensures { Reads (Looks lists.entry) s (floats_of s w.now) (numbers_of s m.now) result
         (λ M u. choose minCorner (definition.forces_min M r (row_of u r) act e u) (definition.forces_max M r (row_of u r) act e u)) }
 {
-    let x = readers::limits(w, s, r, rows::written_terms(lists.rows.starts, r));
+    let x = rows::limits(lists.rows.starts, w, s, r);
     if minCorner {
         if x.near_min(act) && e.ninf_l == 0 {
             let sliver = Sliver {

@@ -54,6 +54,20 @@ pub takes : {A : Type 0} {b : Bool} (x y : A) → b ≡ true → choose b x y �
 unfolding choose
 takes x y e = rw e
 
+-- ---- for the functions' proofs: the tests, by their ways
+module _ (feas mag slack : Float) where
+  pub negative_first : le 0f feas ≡ false → false ≡ not_negative feas mag slack
+  unfolding not_negative
+  negative_first e = simp e
+
+  pub negative_second : le 0f feas ≡ true → le 0f mag ≡ false → false ≡ not_negative feas mag slack
+  unfolding not_negative
+  negative_second e h = simp (e, h)
+
+  pub negative_third : le 0f feas ≡ true → le 0f mag ≡ true → le 0f slack ≡ not_negative feas mag slack
+  unfolding not_negative
+  negative_third e h = simp (e, h)
+
 -- ---- a float in hand is held, and a test that failed tells nothing
 pub held_so : {x : Float} → fits binary64 x ≡ true → Held x
 held_so e = record { fits = subst T (sym e) tt }

@@ -73,7 +73,7 @@ fn add_term(act: Activity, cmin: f64, cmax: f64, slack_l: f64, slack_u: f64) -> 
     }
 }
 
-// The tolerance of the bound that a term takes at the minimum corner.
+// The tolerance of the bound that a term takes at the minimum corner: a choice between two of the definition's own values.
 #[tactic(auto, unfolding(floats::specs::Num::choose))]
 fn tol_min(a: f64, e: Ends) -> f64
     ensures { result ≡ choose (lt a 0f) e.tol_hi e.tol_lo }

@@ -2,8 +2,8 @@
 ghost use Rattle.std.specs.Prelude.{◌≡◌};
 ghost use Rattle.definition.specs.Begin as begin;
 
-// Only a finite bound is rounded. A lower one less the tolerance is rounded up, an upper one with it down: one function for both
-// would take the sum and the rounding as parameters.
+// Only a finite bound is rounded. A lower one less the tolerance is rounded up, an upper one with it down: one function for both, by
+// negation as `ceil` has it, would be longer at each call, and the definition has both spelled out.
 #[tactic(auto, unfolding(floats::specs::Num::choose, definition::specs::Begin::rounded_lower))]
 pub fn rounded_lower(tol: f64, l: f64) -> f64
     ensures { result ≡ begin.rounded_lower tol l }

@@ -1,7 +1,8 @@
 // `emit_bounds`, `tighten_upper` and `tighten_lower` of src/presolve/work.rs of microlp 0.7.0, changed:
 // whether an implied bound moves its variable's, which is an error where no point is left.
-// The lower bound's functions stand beside the upper's: they add where those subtract, and one function for both would take
-// the rounding, the sums and the comparisons as parameters.
+// The lower bound's functions stand beside the upper's: they round the other way, add where those subtract and compare the other way
+// round. One function for both, by negation as `ceil` has it, would negate three or four numbers a call, and the definition has each
+// spelled out.
 ghost use Rattle.std.specs.Prelude.{◌≡◌, true};
 ghost use Rattle.formulas.specs.Moves as moves;
 ghost use Rattle.formulas.specs.Stays.{upper_still, lower_still, UpperStays, LowerStays};
@@ -82,7 +83,8 @@ pub fn lower_stays(int: bool, q: f64, elo: f64, wlo: f64) -> bool
     }
 }
 
-// `emit_bounds`: whether it tightens, and the working bounds that it leaves: the upper one with the larger and the smaller exchanged.
+// `emit_bounds`: whether it tightens, and the working bounds that it leaves: the upper one with the larger and the smaller exchanged,
+// one line each.
 #[tactic(auto, unfolding(crate::specs::Moves::emits_tighter))]
 pub fn emits_tighter(lo: f64, hi: f64, elo: f64, ehi: f64) -> bool
     ensures { result ≡ moves.emits_tighter lo hi elo ehi }

@@ -19,7 +19,7 @@ pub fn is_mip(mode: u8) -> bool
     mode != 0
 }
 
-// Fixed by the emitted bounds.
+// Fixed by the emitted bounds. Two numbers and no `Ends`: it reads no tolerance.
 #[tactic(auto, unfolding(crate::specs::Fixing::fixed_at))]
 pub fn fixed_at(elo: f64, ehi: f64) -> bool
     ensures { result ≡ fixed_at elo ehi }
@@ -27,7 +27,8 @@ pub fn fixed_at(elo: f64, ehi: f64) -> bool
     elo == ehi && floats::is_finite(elo)
 }
 
-// Whether a term keeps its variable from moving: pos where its coefficient is positive, else neg.
+// Whether a term keeps its variable from moving: pos where its coefficient is positive, else neg: a choice between two of the
+// definition's own values.
 #[tactic(auto, unfolding(floats::specs::Num::choose, crate::specs::Fixing::blocks_at))]
 pub fn blocks(a: f64, pos: bool, neg: bool) -> bool
     ensures { result ≡ blocks_at a pos neg }

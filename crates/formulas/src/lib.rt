@@ -22,6 +22,7 @@ pub use bounds::{
     emits_tighter, emitted_lower, emitted_upper, lower_int_move, lower_real_move, lower_stays,
     upper_int_move, upper_real_move, upper_stays,
 };
+use definition::Activity;
 pub use fixing::{blocks, fixed_at, is_int_domain, is_mip, may_fall, may_rise};
 pub use folding::rewrite_room;
 pub use forcing::corner;
@@ -30,7 +31,7 @@ pub use params::{
     COEFF_MIN_IMPROVE, COEFF_TIGHTEN_ROW_CAP, COEFF_TIGHTEN_SHORT_ROW, IMPROVE_REL, MAX_PASSES,
     MAX_ROUNDS, REDUNDANT_MARGIN, max_rounds, max_waves,
 };
-pub use rewrites::{act_after, binary, rewrite_count, spared};
+pub use rewrites::{binary, rewrite_count, spared};
 
 // What a row's formulas look at, by value: its two sides, the magnitude of the terms folded out of
 // it and their sum, the tolerance that it is held to, and how many terms it has as written.
@@ -55,7 +56,7 @@ pub struct Side {
     pub slack: f64,
 }
 
-// A variable's bounds, and the tolerance of each.
+// A variable's bounds, and the tolerance of each. What reads the bounds alone takes two numbers: it has no tolerance to hand in.
 #[derive(Clone, Copy)]
 pub struct Ends {
     pub lo: f64,
@@ -64,11 +65,28 @@ pub struct Ends {
     pub tol_hi: f64,
 }
 
+// How far the corner of a row is short of the row's bound, and the magnitude that was summed for it.
+#[derive(Clone, Copy)]
+pub struct Sliver {
+    pub gap: f64,
+    pub mag: f64,
+}
+
 // Which side a row's one finite bound is on.
 #[derive(Clone, Copy)]
 pub enum Form {
     Le,
     Ge,
+}
+
+// A row as its terms are looked at: which side its one finite bound is on, if it has just one, the room of its vacuous branch, its
+// limits and its activity. The form is an Option, since the promises stand for a row with no such side too.
+#[derive(Clone, Copy)]
+pub struct OneSided {
+    pub form: Option<Form>,
+    pub room: f64,
+    pub limits: Limits,
+    pub act: Activity,
 }
 
 // A rewrite of a term: its new coefficient, and the row's new bound where that moves.

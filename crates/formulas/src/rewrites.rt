@@ -1,7 +1,7 @@
 // `tighten_binary_coeffs` of src/presolve/work.rs of microlp 0.7.0, changed: what a rewrite does to one
 // term: a vacuous branch of a binary is made bound-tight.
-// A Ge row's functions and arms stand beside a Le row's: they add where those subtract, and one function for both would take the
-// sums and the comparisons as parameters.
+// A Ge row's functions and arms stand beside a Le row's: they add where those subtract. One function for both, by negation as `ceil`
+// has it, would negate four numbers in and two out, and the definition has each arm spelled out.
 // A form and a rewrite are Options, since the promises stand for a row with no such side and for no rewrite too.
 ghost use Rattle.std.specs.Prelude.{◌≡◌};
 ghost use Rattle.definition.specs.Rewrites as defs;
@@ -9,7 +9,7 @@ ghost use Rattle.formulas.specs.Bare.{bare, ByParams};
 ghost use Rattle.formulas.specs.Rewriting.{maybe_form, maybe_rewrite, spared_at, binary_at, rewrite_at};
 
 use crate::params::{COEFF_MIN_IMPROVE, COEFF_TIGHTEN_ROW_CAP, COEFF_TIGHTEN_SHORT_ROW};
-use crate::{Form, Limits, Rebound, Rewrite};
+use crate::{Form, Limits, OneSided, Rebound, Rewrite};
 use definition::Activity;
 use tolerances::ROUNDOFF_FLOOR;
 
@@ -41,46 +41,48 @@ impl Limits {
             None => 0.0,
         }
     }
+}
 
+impl OneSided {
     #[tactic(auto, unfolding(floats::specs::Num::choose, definition::specs::Rewrites::vacuous_le))]
-    fn vacuous_le(self, nz: f64, act: Activity, a: f64) -> Option<Rewrite>
-        ensures { ByParams (maybe_rewrite result) (λ M. defs.vacuous_le M nz (bare self) act a) }
+    fn vacuous_le(self, a: f64) -> Option<Rewrite>
+        ensures { ByParams (maybe_rewrite result) (λ M. defs.vacuous_le M self.room (bare self.limits) self.act a) }
     {
-        let rest = act.u - floats::larger(a, 0.0);
+        let rest = self.act.u - floats::larger(a, 0.0);
         if a > 0.0 {
-            shrink_le(nz, self.hi, rest, a)
+            shrink_le(self.room, self.limits.hi, rest, a)
         } else {
-            raise_le(nz, self.hi, rest, a)
+            raise_le(self.room, self.limits.hi, rest, a)
         }
     }
 
     #[tactic(auto, unfolding(floats::specs::Num::choose, definition::specs::Rewrites::vacuous_ge))]
-    fn vacuous_ge(self, nz: f64, act: Activity, a: f64) -> Option<Rewrite>
-        ensures { ByParams (maybe_rewrite result) (λ M. defs.vacuous_ge M nz (bare self) act a) }
+    fn vacuous_ge(self, a: f64) -> Option<Rewrite>
+        ensures { ByParams (maybe_rewrite result) (λ M. defs.vacuous_ge M self.room (bare self.limits) self.act a) }
     {
-        let rest = act.l - floats::smaller(a, 0.0);
+        let rest = self.act.l - floats::smaller(a, 0.0);
         if a < 0.0 {
-            shrink_ge(nz, self.lo, rest, a)
+            shrink_ge(self.room, self.limits.lo, rest, a)
         } else {
-            lower_ge(nz, self.lo, rest, a)
+            lower_ge(self.room, self.limits.lo, rest, a)
         }
     }
 
     #[tactic(auto, unfolding(floats::specs::Num::choose, definition::specs::Rewrites::vacuous))]
-    fn vacuous(self, f: Option<Form>, nz: f64, act: Activity, a: f64) -> Option<Rewrite>
-        ensures { ByParams (maybe_rewrite result) (λ M. defs.vacuous M (maybe_form f) nz (bare self) act a) }
+    fn vacuous(self, a: f64) -> Option<Rewrite>
+        ensures { ByParams (maybe_rewrite result) (λ M. defs.vacuous M (maybe_form self.form) self.room (bare self.limits) self.act a) }
     {
-        match f {
+        match self.form {
             Some(Form::Le) => {
-                if act.ninf_u == 0 {
-                    self.vacuous_le(nz, act, a)
+                if self.act.ninf_u == 0 {
+                    self.vacuous_le(a)
                 } else {
                     None
                 }
             }
             Some(Form::Ge) => {
-                if act.ninf_l == 0 {
-                    self.vacuous_ge(nz, act, a)
+                if self.act.ninf_l == 0 {
+                    self.vacuous_ge(a)
                 } else {
                     None
                 }
@@ -89,52 +91,46 @@ impl Limits {
         }
     }
 
-    // The rewrite of a term whose variable is a strict binary, or is not.
+    // The rewrite of a term with the coefficient a whose variable is a strict binary, or is not.
     #[tactic(auto, unfolding(floats::specs::Num::choose, crate::specs::Rewriting::rewrite_at))]
-    pub fn rewrite_of(
-        self,
-        is_binary: bool,
-        f: Option<Form>,
-        nz: f64,
-        act: Activity,
-        a: f64,
-    ) -> Option<Rewrite>
-        ensures { ByParams (maybe_rewrite result) (λ M. rewrite_at M is_binary (maybe_form f) nz (bare self) act a) }
+    pub fn rewrite_of(self, is_binary: bool, a: f64) -> Option<Rewrite>
+        ensures { ByParams (maybe_rewrite result) (λ M. rewrite_at M is_binary (maybe_form self.form) self.room (bare self.limits) self.act a) }
     {
         if !is_binary || a == 0.0 {
             None
         } else {
-            self.vacuous(f, nz, act, a)
+            self.vacuous(a)
         }
     }
-}
 
-// The activity after the rewrite of the coefficient a, if that is rewritten.
-#[tactic(auto, unfolding(definition::specs::Rewrites::act_after))]
-pub fn act_after(f: Option<Form>, a: f64, z: Option<Rewrite>, act: Activity) -> Activity
-    ensures { result ≡ defs.act_after (maybe_form f) a (maybe_rewrite z) act }
-{
-    let Some(z) = z else {
-        return act;
-    };
-    match (f, z.bound) {
-        (Some(Form::Le), None) => Activity {
-            l: act.l + (z.coeff - a),
-            ..act
-        },
-        (Some(Form::Ge), None) => Activity {
-            u: act.u - (a - z.coeff),
-            ..act
-        },
-        (Some(Form::Le), Some(b)) => Activity {
-            u: act.u - b.by,
-            ..act
-        },
-        (Some(Form::Ge), Some(b)) => Activity {
-            l: act.l + b.by,
-            ..act
-        },
-        (None, _) => act,
+    // The activity after the rewrite of the coefficient a, if that is rewritten.
+    #[tactic(auto, unfolding(definition::specs::Rewrites::act_after))]
+    pub fn act_after(self, a: f64, z: Option<Rewrite>) -> Activity
+        ensures { result ≡ defs.act_after (maybe_form self.form) a (maybe_rewrite z) self.act }
+    {
+        let act = self.act;
+        let Some(z) = z else {
+            return act;
+        };
+        match (self.form, z.bound) {
+            (Some(Form::Le), None) => Activity {
+                l: act.l + (z.coeff - a),
+                ..act
+            },
+            (Some(Form::Ge), None) => Activity {
+                u: act.u - (a - z.coeff),
+                ..act
+            },
+            (Some(Form::Le), Some(b)) => Activity {
+                u: act.u - b.by,
+                ..act
+            },
+            (Some(Form::Ge), Some(b)) => Activity {
+                l: act.l + b.by,
+                ..act
+            },
+            (None, _) => act,
+        }
     }
 }
 
@@ -146,7 +142,8 @@ pub fn rewrite_count(z: Option<Rewrite>) -> usize
     usize::from(z.is_some())
 }
 
-// A Le row, b its bound. At zero the branch is vacuous, and a and b shrink.
+// A Le row, b its bound. At zero the branch is vacuous, and a and b shrink. The four arms take the formula's four numbers: a struct
+// for them would be made and taken apart in one call.
 #[tactic(auto, unfolding(floats::specs::Num::choose, definition::specs::Rewrites::shrink_le))]
 fn shrink_le(nz: f64, b: f64, rest: f64, a: f64) -> Option<Rewrite>
     ensures { ByParams (maybe_rewrite result) (λ M. defs.shrink_le M nz b rest a) }
@@ -204,7 +201,7 @@ fn lower_ge(nz: f64, b: f64, rest: f64, a: f64) -> Option<Rewrite>
     }
 }
 
-// Strictly binary in the emitted bounds, as numbers.
+// Strictly binary in the emitted bounds, as numbers. Two numbers and no `Ends`: it reads no tolerance.
 #[tactic(auto, unfolding(crate::specs::Rewriting::binary_at))]
 pub fn binary(is_int_domain: bool, elo: f64, ehi: f64) -> bool
     ensures { result ≡ binary_at is_int_domain elo ehi }

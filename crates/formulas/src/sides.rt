@@ -12,8 +12,8 @@ use crate::params::REDUNDANT_MARGIN;
 use crate::{Limits, Side};
 use definition::Activity;
 
-// The lower side's tests stand beside the upper's: they add where those subtract, and one function for both would take the sums and
-// the comparisons as parameters.
+// The lower side's tests stand beside the upper's: they read the other side and add where those subtract, a line each, and the
+// definition has each spelled out.
 impl Limits {
     // The magnitude of a bound as written.
     #[tactic(auto, unfolding(definition::specs::Model::rhs_mag))]

@@ -9,9 +9,10 @@ use crate::{Ends, Limits};
 use tolerances::ROUNDOFF_FLOOR;
 
 // The upper bound's functions stand beside the lower's: they round by floor for ceil, and add where those subtract. One function for
-// both would take the sums, the rounding and the comparisons as parameters.
+// both, by negation as `ceil` has it, would negate three numbers in and one out, and the definition has each spelled out.
 impl Limits {
-    // The side of the row that bounds the variable from below, and the one from above, with the sides exchanged.
+    // The side of the row that bounds the variable from below, and the one from above, with the sides exchanged: one line each, a
+    // choice between two values of the definition.
     #[tactic(auto, unfolding(floats::specs::Num::choose, crate::specs::Singles::lower_side))]
     pub fn lower_side(self, a: f64) -> f64
         ensures { result ≡ lower_side (bare self) a }

@@ -24,7 +24,7 @@ use space::{Coeffs, Len, Shape, Vars, Whi, Wlo, get};
 use view::Lists;
 
 // A half of what a row says of a term: one side of the row, the upper one where upper, and the term, variable v by coefficient a,
-// which has the part c at that side's corner.
+// which has the part c at that side's corner. upper is a flag, as the definition's `side_step` has it.
 #[derive(Clone, Copy)]
 struct Half {
     upper: bool,
@@ -149,9 +149,7 @@ pub fn implied_bounds(
     ensures { Tries (Moves lists.entry) s (floats_of s w.entry.now) (numbers_of s m.old)
         (floats_of s w.exit.now) (numbers_of s m.new) result (λ M w. definition.implied_bounds M r (row_of w r) act (row_of w r).terms w) }
 {
-    // Forcing and singles write these two calls too: readers, which has the limits, stands below rows, which has the count, and other
-    // callers ask with a count of their own.
-    let x = readers::limits(w, s, r, rows::written_terms(lists.rows.starts, r));
+    let x = rows::limits(lists.rows.starts, w, s, r);
     let a = lists.rows.starts[r];
     for i in 0..get::<Len>(m, s, r) {
         let v = get::<Vars>(m, s, a + i);

@@ -47,7 +47,7 @@ impl From<FileRefusal> for u8 {
 }
 
 // A variable, a term and a row's head, as the file has them. Domain, comparison and mode stay bytes: they go
-// as they are into slices that the C interface has as bytes.
+// as they are to where the C interface has bytes, the first two in slices.
 #[derive(Clone, Copy)]
 pub struct Variable {
     pub objective: f64,
@@ -79,7 +79,8 @@ pub struct Settings {
 }
 
 // The lent slices that a model is read into: an entry for each variable, row or term, and a start more
-// than there are rows. They lie side by side, since the C interface lends a model so.
+// than there are rows. They lie side by side, since the C interface lends a model so. That a function leaves the same
+// slices there, and changes what they hold alone, is `SameSlices` in its contract: a type cannot say it of a `&mut`.
 #[derive(Drop)]
 pub struct ModelSlices<'a> {
     pub objective: &'a mut [f64],

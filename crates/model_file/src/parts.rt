@@ -8,7 +8,7 @@ ghost use Rattle.model_file.specs.Fills.{Sizes, sizes, VarPlace, TermPlace, put_
 use crate::reader::Reader;
 use crate::{FileRefusal, ModelSlices, RowHead, Settings, Term, Variable};
 
-// The bit of a map that has this weight.
+// The bit of a map that has this weight. A map is a byte of the file, here and below: bits and a code, and no number for a kind.
 fn bit(map: u8, weight: u8) -> bool
     requires { 0 < weight }
     ensures { result ≡ eqb (map / weight % 2) 1 }
@@ -100,7 +100,8 @@ impl<'a> Reader<'a> {
         })
     }
 
-    // The right side that a row's map announces, and the count of its terms, after t terms.
+    // The right side that a row's map announces, and the count of its terms, after t terms. That t is at most 512 is
+    // asked wherever a row is read: a type for such counts would be made anew at each sum.
     fn side(&mut self, t: usize, map: u8) -> Result<RowHead, FileRefusal>
         requires { t ≤ 512 }
         ensures read { side t map self.old.rest.now ≡ answered result self.new.rest.now }

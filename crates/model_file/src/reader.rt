@@ -53,7 +53,7 @@ impl<'a> Reader<'a> {
         if present { self.float() } else { Ok(absent) }
     }
 
-    // A count of variables or rows.
+    // A count of variables or rows. It and `code` are alike by chance: they read, bound and refuse differently.
     pub(crate) fn count(&mut self) -> Result<usize, FileRefusal>
         ensures { count self.old.rest.now ≡ answered result self.new.rest.now }
     {

@@ -1,7 +1,8 @@
 // The pass that checks the whole file and writes nothing. There are two passes, since a file that is
 // refused at its last byte leaves the slices as they were, and there is no heap to read it into. Each has functions
 // of its own: those that write ask for room and refuse nothing in a file that was checked, these ask for
-// none and do, and one function over both would have both contracts.
+// none and do. One walk over a trait, as print_result's `Sink` is, would refuse in the second pass too, or ask
+// the first for room, so it would say both contracts and not one.
 ghost use Rattle.std.specs.Prelude.{◌≡◌, ◌≤◌, IfOk};
 ghost use Rattle.model_file.specs.Format.{many, row, rows, decode};
 ghost use Rattle.model_file.specs.Places.{answered};

@@ -8,12 +8,13 @@ use Rattle.refuse.specs.Of.{model_of, input_model}
 use Rattle.whole_numbers.specs.Fault.{conditions, fault}
 use Rattle.whole_numbers.specs.Of.{numbers_of, numbers_is, number, number_above}
 use Rattle.whole_numbers.specs.declared.Fault.{Fault}
-use Rattle.model_file.specs.Format.{Decoded, decode}
+use Rattle.model_file.specs.Format.{Decoded, refusal, file, decode}
 use Rattle.print_result.specs.declared.Off.{Off}
 use Rattle.print_result.specs.Text as text
-use Rattle.print_result.specs.Text.{numbers_line}
+use Rattle.print_result.specs.Text.{refused_line, numbers_line}
 use Rattle.print_result.specs.TextLaws.{numbers_whole, numbers_off}
 use Rattle.presolve_file.specs.Whole.{told}
+use Rattle.presolve_file.specs.Front.{Is, is_file}
 
 -- 0 stands for no fault
 unfoldable pub fault_line : definition.Option (ℕ × ℕ) → List ℕ
@@ -49,3 +50,16 @@ module _ {z : Result Unit Fault} {o : definition.Option (ℕ × ℕ)} (e : numbe
   pub off_line_lem : {f : Fault} {k : Off} → z ≡ Err f → k.number ≡ number f.condition → k.place ≡ f.place → text.numbers_text (Some k) ≡ fault_line o
   unfolding fault_line text.numbers_text
   off_line_lem {f} q p i = rw (p, i) (numbers_off f.place (number_above f.condition) ∙ ap fault_line (sym (ap numbers_is q) ∙ e))
+
+pub text_refused : (s : List ℕ) {n : ℕ} → decode s ≡ refusal n → refused_line n ≡ numbers_text s
+unfolding numbers_text decoded_numbers
+text_refused s e = sym (ap decoded_numbers e)
+
+by : {M : Model} (d : Decoded) → Is M d → fault_line (fault M) ≡ decoded_numbers d
+unfolding decoded_numbers model_line
+by (file f) (is_file e) = ap (λ (M : Model). fault_line (fault M)) e
+by {M = M} (refusal _) x'' = elim x'' [ ]
+
+pub text_read : (s : List ℕ) {M : Model} → Is M (decode s) → fault_line (fault M) ≡ numbers_text s
+unfolding numbers_text
+text_read s i = by (decode s) i

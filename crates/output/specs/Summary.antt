@@ -1,6 +1,7 @@
 -- What comes back beside the lists: the counts as the working numbers have them, and whether the result differs from the model.
-use Rattle.std.specs.Prelude.{ℕ, ◌%◌, ◌^◌, ◌<◌, ◌≡◌, Bool, not, ◌||◌, List, eqb, get_or, Float}
+use Rattle.std.specs.Prelude.{ℕ, ◌%◌, ◌^◌, ◌<◌, ◌≡◌, refl, Bool, true, false, not, ◌||◌, List, eqb, get_or, Float}
 use Rattle.std.proofs.Common.{arith, ap, ◌∙◌}
+use borrow.Author.Tests.{eq-eqb, ne_eqb}
 use Rattle.definition.specs.declared.Counts.{Counts}
 use Rattle.definition.specs.Model.{counts}
 use Rattle.definition.specs.Emit.{same_bounds}
@@ -57,6 +58,28 @@ counts_are z k c p =
 unfoldable pub differsBy : Shape → List Float → List Float → Floats → ℕ → ℕ → Bool
 differsBy s ls us f e k = not (same_bounds f.elo ls) || not (same_bounds f.ehi us) || not (eqb k 0) || not (eqb e s.rows)
 
+module _ (s : Shape) (ls us : List Float) (f : Floats) (e k : ℕ) {z : Bool} (c : z ≡ (not (same_bounds f.elo ls) || not (same_bounds f.ehi us))) where
+  or_true : (a : Bool) → (a || true) ≡ true
+  or_true true = refl
+  or_true false = refl
+
+  pub differs-bounds : z ≡ true → true ≡ differsBy s ls us f e k
+  unfolding differsBy
+  differs-bounds t = rw (← c, t)
+
+  pub differs-kept : (k ≡ 0 → ⊥) → true ≡ differsBy s ls us f e k
+  unfolding differsBy
+  differs-kept q = rw (← c, ne_eqb k 0 q, or_true z)
+
+  pub differs-emitted : z ≡ false → k ≡ 0 → not (eqb e s.rows) ≡ differsBy s ls us f e k
+  unfolding differsBy
+  differs-emitted t q = rw (← c, t, eq-eqb k 0 q)
+
 -- ---- what comes back where e rows are emitted, t terms written and k rows kept
 abbrev pub reducedOf : Shape → List Float → List Float → Floats → Numbers → ℕ → ℕ → ℕ → Reduced
 reducedOf s ls us f n e t k = record { counts = counts_of n; emitted = e; terms = t; kept = k; flag = differsBy s ls us f e k }
+
+pub result-is : {k k' : Counts} {b b' : Bool} {e t j : ℕ} → k ≡ k' → b ≡ b'
+    → ◌≡◌ {A = Reduced} (record { counts = k; emitted = e; terms = t; kept = j; flag = b })
+    (record { counts = k'; emitted = e; terms = t; kept = j; flag = b' })
+result-is p q = rw (p, q)

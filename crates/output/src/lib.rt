@@ -13,7 +13,8 @@ pub use summary::read_counts;
 
 // The caller's result slices: the bounds of each variable; the emitted rows, each in five slices (its
 // number, its mark, its right side and both ends of its span); the rows kept for validation; and the
-// terms of the rewritten rows. Slice beside slice, as C lends them.
+// terms of the rewritten rows. Slice beside slice, as C lends them. That a function leaves the same slices
+// there, and changes what they hold alone, is `SameSlices` in its contract: a type cannot say it of a `&mut`.
 #[derive(Drop)]
 pub struct Results<'a> {
     pub lower: &'a mut [f64],

@@ -22,7 +22,7 @@ pub fn read_counts(m: &[usize], s: Shape) -> Counts
     }
 }
 
-// = differs
+// = differs. No side can fail, so `|` joins them, and it is its definition by computing.
 fn differs(input: Input, w: &[f64], s: Shape, emitted: usize, kept: usize) -> bool
     requires { HoldsF s w.now × (length input.lower.now ≡ s.vars) × (length input.upper.now ≡ s.vars) }
     ensures { result ≡ differsBy s input.entry.lower.now input.entry.upper.now (floats_of s w.now) emitted kept }

@@ -67,9 +67,13 @@ abbrev pub presolved_is : Presolved → Outcome
 presolved_is (variants.Infeasible k) = infeasible k
 presolved_is (variants.Model x) = presolved x.counts x.emitted x.terms x.kept x.flag
 
+-- by the number of a refusal, whatever stands for one
+abbrev pub answer_as : {E : Type 0} → (E → ℕ) → Result Presolved E → Outcome
+answer_as number (Ok z) = presolved_is z
+answer_as number (Err k) = refused (number k)
+
 abbrev pub answer_is : Answer → Outcome
-answer_is (Ok z) = presolved_is z
-answer_is (Err k) = refused (number_of k)
+answer_is = answer_as number_of
 
 -- the table's refusal, or else the definition's answer
 unfoldable pub outcome : Option ℕ → definition.Answer → Outcome

@@ -19,10 +19,14 @@ pub data Second : Type 0 where
   no_model : Second
   reduced : Counts → ℕ → ℕ → ℕ → Bool → Second
 
+-- by the number of a refusal, whatever stands for one
+abbrev pub second_as : {E : Type 0} → (E → ℕ) → Result (prelude.Option code.Reduced) E → Second
+second_as number (Ok (Some x)) = reduced x.counts x.emitted x.terms x.kept x.flag
+second_as number (Ok None) = no_model
+second_as number (Err k) = refused (number k)
+
 abbrev pub second_is : Result (prelude.Option code.Reduced) Refusal → Second
-second_is (Ok (Some x)) = reduced x.counts x.emitted x.terms x.kept x.flag
-second_is (Ok None) = no_model
-second_is (Err k) = refused (number_of k)
+second_is = second_as number_of
 
 -- of presolve's answer
 unfoldable pub second : Outcome → Second
@@ -31,11 +35,11 @@ second (infeasible k) = no_model
 second (presolved k n t q g) = choose g (reduced k n t q g) no_model
 
 -- a model, by its flag
-pub second_chosen : (x : code.Reduced) {y : prelude.Option code.Reduced} → y ≡ then_some x.flag x → second_is (Ok y) ≡ second (presolved_is (variants.Model x))
+pub second_chosen : {E : Type 0} (number : E → ℕ) (x : code.Reduced) {y : prelude.Option code.Reduced} → y ≡ then_some x.flag x → second_as number (Ok y) ≡ second (presolved_is (variants.Model x))
 unfolding second choose
-second_chosen x e = rw e (go x.flag)
+second_chosen number x e = rw e (go x.flag)
   where
-    go : (g : Bool) → second_is (Ok (then_some g x)) ≡ choose g (reduced x.counts x.emitted x.terms x.kept x.flag) no_model
+    go : (g : Bool) → second_as number (Ok (then_some g x)) ≡ choose g (reduced x.counts x.emitted x.terms x.kept x.flag) no_model
     go true = refl
     go false = refl
 

@@ -1,13 +1,13 @@
 -- The call step by step: an accepted call's shape and room, and the promise from what the steps promise.
 use Rattle.std.specs.Prelude.{ℕ, ◌+◌, ◌≤◌, ◌≡◌, Bool, List, length, replicate, Float, ⊤, Result, Ok, Err}
-use Rattle.std.proofs.Common.{arith, ◌∙◌, subst}
+use Rattle.std.proofs.Common.{arith, ◌∙◌, subst, Bor}
 use Rattle.std.proofs.Math.Path.{refl, ap, sym}
 use Rattle.std.proofs.Math.Option.{Option, none, some}
 use Rattle.floats.specs.Num.{0f}
 use Rattle.definition.specs.declared.Counts.{Counts}
 use Rattle.definition.specs.declared.Infeasible.{Infeasible}
 use Rattle.definition.specs.declared.Input.{Input}
-use Rattle.definition.specs.Params.{params}
+use Rattle.definition.specs.Params.{Params, params}
 use Rattle.definition.specs.Model as definition
 use Rattle.definition.specs.Model.{Model, is_mip, Reduced}
 use Rattle.definition.specs.Work.{Work}
@@ -103,6 +103,27 @@ accept {M} {b} {x} e p v r t i f =
       table = e.table;
       scalars = record { vars = v ∙ sym (lengths_agree M (accepted M (lengths b x) e.table).lengths).lower; rows = r; terms = t; mip = i; feas = f };
     }
+
+-- each model with an accepted call is what some call hands in
+lent : {A : Type 0} → A → Bor A
+lent x = record { ref_ptr = (0, 0); now = x }
+
+input_of : Model → Input
+input_of M =
+    record {
+      obj = lent M.obj;
+      lower = lent M.lower;
+      upper = lent M.upper;
+      domain = lent M.domain;
+      rows = record { starts = lent M.starts; index = lent M.index; coeff = lent M.coeff; cmp = lent M.cmp; rhs = lent M.rhs };
+      mode = M.mode;
+      feas = M.feas;
+      int_tol = M.int_tol;
+    }
+
+pub accepted_input : {M : Model} {b : Results} {x : Working} {s : Shape} → Accepted M b x s → (i : Input) × (input_model i ≡ M)
+unfolding input_of lent
+accepted_input {M} a = (input_of M, ap (λ (p : Params). record M { params = p }) (sym a.params))
 
 module _ (i : Input) {b : Results} {x : Working} {s : Shape} (a : Accepted (input_model i) b x s) where
   abbrev M : Model

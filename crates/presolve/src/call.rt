@@ -1,9 +1,9 @@
 // A call, by the table of refusals first.
-ghost use Rattle.std.specs.Prelude.{◌≡◌};
+ghost use Rattle.std.specs.Prelude.{◌≡◌, ℕ};
 ghost use Rattle.refuse.specs.Of.{input_model, lent_of};
 ghost use Rattle.output.specs.Results.{held, SameSlices};
-ghost use Rattle.presolve.specs.Promise.{working_of, SameSpace, lengths, answer_is, Promise};
-ghost use Rattle.presolve.specs.Second.{second_is, second};
+ghost use Rattle.presolve.specs.Promise.{working_of, SameSpace, lengths, answer_as, Promise};
+ghost use Rattle.presolve.specs.Second.{second_as, second};
 
 use crate::accepted::accepted;
 use crate::{Presolved, Space};
@@ -47,9 +47,10 @@ pub fn presolve(
     Ok(accepted(input, results, space))
 }
 
-// `reduced_model`: infeasible and unreduced answers are no reduced model.
-pub fn reduced_model(answer: Result<Presolved, Refusal>) -> Result<Option<Reduced>, Refusal>
-    ensures { second_is result ≡ second (answer_is answer) }
+// `reduced_model`: infeasible and unreduced answers are no reduced model. A refusal goes on, whatever
+// stands for it.
+pub fn reduced_model<E>(answer: Result<Presolved, E>) -> Result<Option<Reduced>, E>
+    ensures by_number { (number : E → ℕ) → second_as number result ≡ second (answer_as number answer) }
 {
     match answer? {
         Presolved::Infeasible(_) => Ok(None),

@@ -11,7 +11,7 @@ pub use call::{lent_lengths, presolve, reduced_model};
 use definition::Counts;
 use output::Reduced;
 
-// The lent working slices.
+// The lent working slices. `SameSpace` is to them what `SameSlices` is to output's `Results`.
 #[derive(Drop)]
 pub struct Space<'a> {
     pub floats: &'a mut [f64],

@@ -1,6 +1,6 @@
 -- 01's DEMANDS HOLD OF A CALL FROM C OR RUST TOO: where the answer's slice has its nine entries, such a call is a call of presolve, with the same answer and the same
 -- slices before and after it. So everything in presolve's specs/Demands holds of it.
-use Rattle.std.specs.Prelude.{ℕ, zero, suc, ◌≤◌, ◌≡◌, refl, List, length, Ok, Err}
+use Rattle.std.specs.Prelude.{ℕ, zero, suc, ◌≤◌, ◌≡◌, refl, List, length, Result, Ok, Err}
 use Rattle.std.proofs.Common.{arith, ap, sym, ◌∙◌, subst}
 use Rattle.std.proofs.Math.Option.{Option, none, some}
 use Rattle.definition.specs.Model as definition
@@ -11,8 +11,9 @@ use Rattle.output.specs.Results.{Results}
 use Rattle.refuse.specs.declared.Refusal.{Refusal}
 use Rattle.refuse.specs.declared.Refusal.TheVariants.{LengthsDisagree, TooLarge, StartsWrong, IndicesWrong, CodesWrong, BoundsWrong, NumbersWrong, RhsesWrong, TolerancesWrong, TooShort}
 use Rattle.refuse.specs.Number.{number_of}
+use Rattle.presolve.specs.declared.Presolved.{Presolved}
 use Rattle.presolve.specs.declared.Presolved.TheVariants as variants
-use Rattle.presolve.specs.Promise.{Working, lengths, Outcome, Answer, refused, infeasible, presolved, answer_is, outcome, results_after, working_after, Promise}
+use Rattle.presolve.specs.Promise.{Working, lengths, Outcome, Answer, refused, infeasible, presolved, answer_as, answer_is, outcome, results_after, working_after, Promise}
 use Rattle.presolve_c.specs.Face.{face_refusal, Told, FacePromise}
 use Rattle.presolve_c.specs.Steps.{long_is}
 use Rattle.presolve_c.specs.Codes.{Numbered, numbered}
@@ -58,6 +59,18 @@ unfolding outcome answer_of
 is_answer_of (some k) a n = let m = n.is k refl in ap refused (number_is k m.0 m.1)
 is_answer_of none (definition.infeasible k) n = refl
 is_answer_of none (definition.done x) n = refl
+
+-- each outcome, whatever its refusal's number, is that of an answer whose refusal is a number
+unfoldable pub answer_by : Outcome → Result Presolved ℕ
+answer_by (refused k) = Err k
+answer_by (infeasible k) = Ok (variants.Infeasible k)
+answer_by (presolved k n t q g) = Ok (variants.Model (record { counts = k; emitted = n; terms = t; kept = q; flag = g }))
+
+pub is_answer_by : (o : Outcome) → answer_as (λ k. k) (answer_by o) ≡ o
+unfolding answer_by
+is_answer_by (refused k) = refl
+is_answer_by (infeasible k) = refl
+is_answer_by (presolved k n t q g) = refl
 
 -- the call of presolve that a call with the code z and the numbers ans' is: its answer, the promise that it keeps, and that z and ans' tell this answer
 pub record IsCall (M : Model) (b : Results) (x : Working) (ans : List ℕ) (z : ℕ) (b' : Results) (x' : Working) (ans' : List ℕ) : Type 0 where

@@ -1,4 +1,4 @@
-// The answer as a code and numbers: 0 a model, 100 infeasible, 1 to 10 a refusal.
+// The answer as a code and numbers, as C is handed it: 0 a model, 100 infeasible, 1 to 10 a refusal. The code is C's byte.
 ghost use Rattle.std.specs.Prelude.{◌≡◌, ◌≤◌, length};
 ghost use Rattle.std.proofs.Math.Option.{some};
 ghost use Rattle.definition.specs.Refusal.{refusal};
@@ -12,7 +12,8 @@ use output::Reduced;
 use presolve::Presolved;
 use refuse::{Lent, Refusal};
 
-// How many numbers a model has.
+// How many numbers a model has. `answer` is C's slice, of any length from this one on, so each of the three functions
+// below asks for that.
 pub const ANSWER: usize = 9;
 
 // The five counts.

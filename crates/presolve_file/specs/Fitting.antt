@@ -2,7 +2,7 @@
 use Rattle.std.specs.Prelude.{ℕ, ◌≤◌, refl, Bool, List, [], ◌++◌, take, leb, Option, None, Some, unwrap_or}
 use native.Mathlib.Omega.{arith}
 use Rattle.std.proofs.Math.Path.{◌≡◌, ap}
-use Rattle.std.proofs.Common.{sym, length-append, length-take-le}
+use Rattle.std.proofs.Common.{sym, ◌∙◌, length-append, length-take-le}
 use Rattle.std.proofs.Math.Bool.{true, false}
 use Rattle.std.proofs.Math.ListN.{length, drop}
 use Rattle.std.proofs.Math.Seq.{take-append_seam}
@@ -43,6 +43,15 @@ module _ (t old : List ℕ) where
   none_by false e = ((omega arith, refl), (refl, ap (λ (o : Outcome). o.buffer) e))
 
 -- r is what was answered, l the buffer after it
+module _ (t old : List ℕ) {r : Option ℕ} {l : List ℕ} (e : outcome r l ≡ printed t old) where
+  pub fits_bytes : {k : ℕ} → r ≡ Some k → Part k l × ((take k l ≡ fitting (length old) t) × (l ≡ over (fitting (length old) t) old))
+  unfolding printed fitting
+  fits_bytes q = bytes_by t old (leb (length t) (length old)) (ap (λ (x : Option ℕ). outcome x l) (sym q) ∙ e)
+
+  pub fits_none : r ≡ None → Part 0 l × ((take 0 l ≡ fitting (length old) t) × (l ≡ over (fitting (length old) t) old))
+  unfolding printed fitting
+  fits_none q = none_by t old (leb (length t) (length old)) (ap (λ (x : Option ℕ). outcome x l) (sym q) ∙ e)
+
 pub fits : (t old : List ℕ) (r : Option ℕ) {l : List ℕ} → outcome r l ≡ printed t old
     → Part (unwrap_or r 0) l × ((take (unwrap_or r 0) l ≡ fitting (length old) t) × (l ≡ over (fitting (length old) t) old))
 unfolding printed fitting

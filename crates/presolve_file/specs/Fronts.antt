@@ -58,13 +58,33 @@ call_text (Ok (Model x)) lowers uppers b = fronts_text x lowers uppers b
 
 -- ---- what the functions print
 module _ (x : Reduced) (lowers uppers : ℕ) (b : Results) where
-  pub fronts_text_lem : {kind : Kind} → kind ≡ kind_of x.flag → Fronts x lowers uppers b
+  pub fronts_text_lem : {kind : Kind} {k : Counts} → kind ≡ kind_of x.flag → k ≡ x.counts
+      → answer_text kind k lowers (take lowers b.lower) (take uppers b.upper) x.emitted (take x.emitted b.emit_row)
+      (take x.emitted b.emit_rewritten) (take x.emitted b.emit_rhs) (take x.emitted b.emit_from) (take x.emitted b.emit_upto)
+      (take x.terms b.term_index) (take x.terms b.term_coeff) x.kept (take x.kept b.kept)
+      ≡ fronts_text x lowers uppers b
+  unfolding fronts_text
+  fronts_text_lem p q = rw (p, q)
+
+  pub fronts_text_lengths : {kind : Kind} → kind ≡ kind_of x.flag → Fronts x lowers uppers b
       → answer_text kind x.counts (length (take lowers b.lower)) (take lowers b.lower) (take uppers b.upper) (length (take x.emitted b.emit_row))
       (take x.emitted b.emit_row) (take x.emitted b.emit_rewritten) (take x.emitted b.emit_rhs) (take x.emitted b.emit_from) (take x.emitted b.emit_upto)
       (take x.terms b.term_index) (take x.terms b.term_coeff) (length (take x.kept b.kept)) (take x.kept b.kept)
       ≡ fronts_text x lowers uppers b
   unfolding fronts_text
-  fronts_text_lem p h = rw (p, length-take-le _ _ h.lower, length-take-le _ _ h.row, length-take-le _ _ h.kept)
+  fronts_text_lengths p h = rw (p, length-take-le _ _ h.lower, length-take-le _ _ h.row, length-take-le _ _ h.kept)
+
+module _ {z : Result Presolved Refusal} (lowers uppers : ℕ) (b : Results) where
+  pub refused_text : {r : Refusal} → z ≡ Err r → refused_line (number_of r) ≡ call_text z lowers uppers b
+  unfolding call_text
+  refused_text e = rw e
+
+  pub presolved_text : {x : Reduced} → z ≡ Ok (Model x) → fronts_text x lowers uppers b ≡ call_text z lowers uppers b
+  unfolding call_text
+  presolved_text e = rw e
+
+  pub presolved_fronts : {x : Reduced} → z ≡ Ok (Model x) → CallFronts z lowers uppers b → Fronts x lowers uppers b
+  presolved_fronts e h = rw e at h
 
 pub infeasible_text_lem : (k : Counts) (vars : ℕ) (lower upper : List Float) (emitted : ℕ) (row : List ℕ) (rewritten : List ℕ) (rhs : List Float) (from upto index : List ℕ)
     (coeff : List Float) (validated : ℕ) (kept : List ℕ)

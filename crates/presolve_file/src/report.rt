@@ -49,7 +49,8 @@ fn print_file<R: Report>(file: &[u8], out: &mut [u8]) -> Option<usize>
 }
 
 // Puts what is printed for a file at the start of out, and answers how many bytes that is: none where
-// it does not fit. The rest of out stays as it was. The buffer is lent, since the libraries use no heap.
+// it does not fit. The rest of out stays as it was. The buffer is lent, since the libraries use no heap. A number and no
+// Option: what is promised is of the first `result` bytes, whatever it is, and a caller prints them.
 pub fn report_file<R: Report>(file: &[u8], out: &mut [u8]) -> usize
     ensures part { Part result out.new }
     ensures text_after { take result out.new ≡ fitting (length out.old) (told R.told (decode file.now)) }

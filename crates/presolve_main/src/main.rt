@@ -1,4 +1,5 @@
-// Reads one model file on standard input, presolves its model and prints the answer.
+// Reads one model file on standard input, presolves its model and prints the answer. A program needs its own `main`;
+// what it shares with presolve_facts is `answer_input`.
 #![tactic(auto)]
 
 use presolve_file::{Presolve, answer_input};

@@ -2,7 +2,7 @@
 use crate::lend::{Packed, ask, sized};
 use std::io;
 
-// p in one row of one term.
+// p in one row of one term. cmp and mode are bytes, as `lend` says.
 fn single(rt: &impl Print, name: &str, cmp: u8, rhs: f64) -> io::Result<()> {
     let m = Packed {
         floats: &[0.0, 0.0, 10.0, 2.0, rhs],

@@ -1,6 +1,5 @@
 // The least lent space, one entry less of each slice, and one working space for several calls.
-use crate::lend::{JUNK, Packed};
-use crate::{lend, print};
+use crate::lend::{self, JUNK, Packed};
 use presolve::Space;
 use std::io;
 
@@ -11,17 +10,14 @@ const SLICES: usize = 22;
 fn lent(rt: &impl Print, spare: usize, short: usize) -> io::Result<()> {
     let mut p = lend::sized(2, 2, 3, 1);
     p.spare = spare;
-    p.short = if short < SLICES { Some(short) } else { None };
+    p.short = (short < SLICES).then_some(short);
     p.junk = 7.25;
     let m = Packed {
         floats: &[0.0, 0.0, 0.0, 0.0, 1.0, 1.0, 1.0, 1.0, 1.0, 1.0, 1.0],
         numbers: &[0, 2, 3, 0, 1, 1],
         codes: &[2, 2, 1, 2],
     };
-    print::text(rt, "spare")?;
-    print::number(rt, spare)?;
-    print::text(rt, " short")?;
-    print::number(rt, short)?;
+    print!(rt; "spare {spare} short {short}")?;
     lend::ask(rt, "", p, m)
 }
 
@@ -46,7 +42,7 @@ fn turn(
         numbers: &[0, 2, 0, 1],
         codes,
     };
-    print::text(rt, name)?;
+    print!(rt; "{name}")?;
     lend::ask_again(rt, lend::sized(2, 1, 2, 1), m, space, 7.25)
 }
 

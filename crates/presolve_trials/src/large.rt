@@ -13,7 +13,7 @@ fn fill(s: &mut [f64], from: usize, a: f64, b: f64) {
 }
 
 // Of each eight variables the first is 0 or 1, with coefficient `first`, and the others are 0 to
-// `upper`, with coefficient 1.
+// `upper`, with coefficient 1. cmp is a byte, as `lend` says.
 #[derive(Clone, Copy)]
 struct Large {
     vars: usize,
@@ -46,16 +46,14 @@ fn model(rt: &impl Print, name: &str, l: Large) -> io::Result<()>
     let mut codes = [0; 12290];
     fill(&mut floats, 2 * l.vars, 1.0, l.upper);
     fill(&mut floats, 3 * l.vars, l.first, 1.0);
-    fill(&mut floats, 3 * l.vars + l.terms, l.rhs, l.rhs);
+    floats[3 * l.vars + l.terms..].fill(l.rhs);
     for (i, start) in numbers.iter_mut().enumerate() {
         *start = 8 * i;
     }
     for (i, index) in numbers.iter_mut().skip(l.rows + 1).enumerate() {
         *index = i % 4096;
     }
-    for code in codes.iter_mut().skip(l.vars) {
-        *code = l.cmp;
-    }
+    codes[l.vars..].fill(l.cmp);
     let mut p = lend::sized(l.vars, l.rows, l.terms, 1);
     p.spare = 0;
     let m = Packed {

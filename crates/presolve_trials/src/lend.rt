@@ -3,7 +3,7 @@ ghost use Rattle.std.specs.Prelude.{◌≡◌, ◌≤◌, None};
 ghost use Rattle.std.specs.Float.{binary64, nan};
 ghost use Rattle.std.specs.Float.Ieee.{of_bits};
 
-use crate::print;
+use crate::print::{Judged, Said};
 use definition::{Input, Rows};
 use output::Results;
 use presolve::{Presolved, Space};
@@ -18,7 +18,8 @@ pub(crate) const JUNK: usize = 18446744073709551615;
 const MARK: u8 = 165;
 
 // A model that stands packed: in `floats` objective, lower and upper bounds, coefficients and right
-// sides; in `numbers` row starts and indices; in `codes` domains and comparisons.
+// sides; in `numbers` row starts and indices; in `codes` domains and comparisons. Those and the mode are bytes,
+// here and in the calls below, as `Input` has them: some calls are made with a byte that stands for nothing.
 #[derive(Clone, Copy)]
 pub(crate) struct Packed<'a> {
     pub floats: &'a [f64],
@@ -55,7 +56,7 @@ pub(crate) fn sized(vars: usize, rows: usize, terms: usize, mode: u8) -> Plan
         int_tol: 0.000000001,
         spare: 3,
         short: None,
-        junk: 0.0 / 0.0,
+        junk: f64::NAN,
     }
 }
 
@@ -100,10 +101,11 @@ impl Held for f64 {
         if zero {
             return self == 0.0 && 1.0 / self > 0.0;
         }
-        self == junk || (self != self && junk != junk)
+        self == junk || (self.is_nan() && junk.is_nan())
     }
 }
 
+// Like the one below by chance: the junk of numbers and the mark of bytes are two constants.
 impl Held for usize {
     fn holds(self, zero: bool, _junk: f64) -> bool {
         self == if zero { 0 } else { JUNK }
@@ -124,7 +126,8 @@ fn hold<T: Held>(s: &[T], from: usize, zeros: usize, junk: f64) -> bool {
         .all(|(i, x)| x.holds(i < zeros, junk))
 }
 
-// The result slices still hold the junk behind their used fronts.
+// The result slices still hold the junk behind their used fronts. Tests are joined by `&`: each slice is looked at, whatever the others
+// hold.
 fn results_hold(r: &Results, a: Answer, p: Plan) -> bool {
     let (vars, rows, terms, kept) = match a {
         Ok(Presolved::Model(x)) => (p.vars, x.emitted, x.terms, x.kept),
@@ -189,8 +192,9 @@ fn input(p: Plan, m: Packed) -> Input {
     }
 }
 
-// One call on the working slices as they are.
-fn call(rt: &impl Print, p: Plan, m: Packed, space: &mut Space) -> io::Result<Answer> {
+// One call on the working slices as they are: its answer, and whether the result slices hold what
+// they should, which are said apart.
+fn call(p: Plan, m: Packed, space: &mut Space) -> (Answer, bool) {
     let v = size(p.vars) + size(p.spare);
     let r = size(p.rows) + size(p.spare);
     let t = size(p.terms) + size(p.spare);
@@ -217,7 +221,6 @@ fn call(rt: &impl Print, p: Plan, m: Packed, space: &mut Space) -> io::Result<An
         term_coeff: cut(&mut term_coeff, p.length(t, 18)),
     };
     let a = presolve::presolve(input(p, m), &mut lent, space);
-    print::answer(rt, a)?;
     let whole = Results {
         lower: &mut lower,
         upper: &mut upper,
@@ -230,8 +233,17 @@ fn call(rt: &impl Print, p: Plan, m: Packed, space: &mut Space) -> io::Result<An
         term_index: &mut term_index,
         term_coeff: &mut term_coeff,
     };
-    print::judged(rt, ", results", results_hold(&whole, a, p))?;
-    Ok(a)
+    (a, results_hold(&whole, a, p))
+}
+
+// A line after its name.
+fn say(rt: &impl Print, a: Answer, results: bool, working: bool) -> io::Result<()> {
+    println!(rt;
+        ": {}, results {}, working {}",
+        Said(a),
+        Judged(results),
+        Judged(working)
+    )
 }
 
 // One call on working slices that hold junk.
@@ -253,15 +265,14 @@ pub(crate) fn ask(rt: &impl Print, name: &str, p: Plan, m: Packed) -> io::Result
         numbers: cut(&mut numbers, lent.numbers),
         adjacency: cut(&mut adjacency, lent.adjacency),
     };
-    print::text(rt, name)?;
-    let a = call(rt, p, m, &mut space)?;
+    print!(rt; "{name}")?;
+    let (a, results) = call(p, m, &mut space);
     let whole = Space {
         floats: &mut floats,
         numbers: &mut numbers,
         adjacency: &mut adjacency,
     };
-    print::judged(rt, ", working", space_holds(&whole, lent, a, p.junk))?;
-    print::text(rt, "\n")
+    say(rt, a, results, space_holds(&whole, lent, a, p.junk))
 }
 
 // One call on working slices as an earlier one left them; at first their floats held `held`.
@@ -272,12 +283,11 @@ pub(crate) fn ask_again(
     space: &mut Space,
     held: f64,
 ) -> io::Result<()> {
-    let a = call(rt, p, m, space)?;
+    let (a, results) = call(p, m, space);
     let lent = Lengths {
         floats: space.floats.len(),
         numbers: space.numbers.len(),
         adjacency: space.adjacency.len(),
     };
-    print::judged(rt, ", working", space_holds(space, lent, a, held))?;
-    print::text(rt, "\n")
+    say(rt, a, results, space_holds(space, lent, a, held))
 }

@@ -1,49 +1,48 @@
-// The parts of a line.
+// What a line says after its name.
 use crate::lend::Answer;
 use definition::Counts;
 use presolve::Presolved;
-use std::io;
+use std::fmt;
 
-pub(crate) fn text(rt: &impl Print, t: &str) -> io::Result<()> {
-    rt.print(t)
-}
+#[derive(Clone, Copy)]
+struct Counted(Counts);
 
-pub(crate) fn number(rt: &impl Print, n: usize) -> io::Result<()> {
-    print!(rt; " {n}")
-}
-
-fn counts(rt: &impl Print, k: Counts) -> io::Result<()> {
-    number(rt, k.rowsDropped)?;
-    number(rt, k.boundsTightened)?;
-    number(rt, k.varsFixed)?;
-    number(rt, k.coeffsTightened)?;
-    number(rt, k.passes)
+impl fmt::Display for Counted {
+    fn fmt<W: fmt::Write>(&self, f: &mut fmt::Formatter<W>) -> fmt::Result {
+        let k = self.0;
+        write!(
+            f,
+            "{} {} {} {} {}",
+            k.rowsDropped, k.boundsTightened, k.varsFixed, k.coeffsTightened, k.passes
+        )
+    }
 }
 
 // The verdict and the five counts; of a model also how many rows are emitted, how many terms the
 // rewritten ones have, and how many rows are kept.
-pub(crate) fn answer(rt: &impl Print, a: Answer) -> io::Result<()> {
-    match a {
-        Err(refusal) => {
-            text(rt, ": refused")?;
-            number(rt, usize::from(u8::from(refusal)))
-        }
-        Ok(Presolved::Infeasible(k)) => {
-            text(rt, ": infeasible")?;
-            counts(rt, k)
-        }
-        Ok(Presolved::Model(x)) => {
-            text(rt, if x.flag { ": reduced" } else { ": unchanged" })?;
-            counts(rt, x.counts)?;
-            text(rt, " with")?;
-            number(rt, x.emitted)?;
-            number(rt, x.terms)?;
-            number(rt, x.kept)
+#[derive(Clone, Copy)]
+pub(crate) struct Said(pub Answer);
+
+impl fmt::Display for Said {
+    fn fmt<W: fmt::Write>(&self, f: &mut fmt::Formatter<W>) -> fmt::Result {
+        match self.0 {
+            Err(refusal) => write!(f, "refused {}", u8::from(refusal)),
+            Ok(Presolved::Infeasible(k)) => write!(f, "infeasible {}", Counted(k)),
+            Ok(Presolved::Model(x)) => {
+                f.write_str(if x.flag { "reduced " } else { "unchanged " })?;
+                let (rows, terms, kept) = (x.emitted, x.terms, x.kept);
+                write!(f, "{} with {rows} {terms} {kept}", Counted(x.counts))
+            }
         }
     }
 }
 
-pub(crate) fn judged(rt: &impl Print, t: &str, ok: bool) -> io::Result<()> {
-    text(rt, t)?;
-    text(rt, if ok { " ok" } else { " bad" })
+// Whether slices hold what they should.
+#[derive(Clone, Copy)]
+pub(crate) struct Judged(pub bool);
+
+impl fmt::Display for Judged {
+    fn fmt<W: fmt::Write>(&self, f: &mut fmt::Formatter<W>) -> fmt::Result {
+        f.write_str(if self.0 { "ok" } else { "bad" })
+    }
 }

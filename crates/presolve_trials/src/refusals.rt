@@ -1,6 +1,5 @@
 // Refusals 3 to 9, what is just not refused, and which of several faults is named.
 use crate::lend::{Packed, ask, sized};
-use crate::print;
 use std::io;
 
 // Two Boolean variables in two rows.
@@ -13,7 +12,7 @@ fn starts(rt: &impl Print, name: &str, numbers: &[usize]) -> io::Result<()> {
     ask(rt, name, sized(2, 2, 2, 1), m)
 }
 
-// One variable in one row.
+// One variable in one row. Codes are bytes, here and below, as `lend` says.
 fn codes(rt: &impl Print, name: &str, mode: u8, domain: u8, cmp: u8) -> io::Result<()> {
     let m = Packed {
         floats: &[0.0, 0.0, 1.0, 1.0, 2.0],
@@ -89,7 +88,7 @@ fn limits(rt: &impl Print, nan: f64) -> io::Result<()> {
 
 // Fault k and all later ones. Fault 2 takes a large model, so here 2 is as 3.
 fn faults(rt: &impl Print, k: usize) -> io::Result<()> {
-    let nan = 0.0 / 0.0;
+    let nan = f64::NAN;
     let mut p = sized(1, 1, 1, 1);
     p.feas = if k <= 9 { 0.51 } else { 0.5 };
     p.short = if k <= 1 {
@@ -106,8 +105,7 @@ fn faults(rt: &impl Print, k: usize) -> io::Result<()> {
     let cmp = if k <= 5 { 3 } else { 1 };
     let start = if k <= 3 { 1 } else { 0 };
     let index = if k <= 4 { 1 } else { 0 };
-    print::text(rt, "faults from")?;
-    print::number(rt, k)?;
+    print!(rt; "faults from {k}")?;
     let m = Packed {
         floats: &[obj, lower, 1.0, 1.0, rhs],
         numbers: &[start, 1, index],
@@ -124,8 +122,8 @@ fn ladder(rt: &impl Print) -> io::Result<()> {
 }
 
 pub(crate) fn all(rt: &impl Print) -> io::Result<()> {
-    let inf = 1.0 / 0.0;
-    let nan = 0.0 / 0.0;
+    let inf = f64::INFINITY;
+    let nan = f64::NAN;
     shapes(rt)?;
     numbers(rt, inf, nan)?;
     limits(rt, nan)?;

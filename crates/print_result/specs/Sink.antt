@@ -1,6 +1,6 @@
 -- What a text makes of where it goes: of a count, which stops at the largest number, and of a lent buffer that is written from a place on.
-use Rattle.std.specs.Prelude.{ℕ, suc, ◌+◌, ◌≤◌, min, ◌≡◌, refl, length, set}
-use Rattle.std.proofs.Common.{ap, ◌∙◌, add-zero, arith, length-append}
+use Rattle.std.specs.Prelude.{ℕ, suc, ◌+◌, ◌≤◌, ◌<◌, min, ◌≡◌, refl, length, get_or, drop, set}
+use Rattle.std.proofs.Common.{ap, sym, ◌∙◌, add-one, add-zero, arith, length-append, drop-cons}
 use mathlib.Core.List.{List, [], ◌∷◌, ◌++◌}
 use Rattle.std.proofs.lemmas.List.Edits.{sets}
 
@@ -50,3 +50,6 @@ filled_joined {a} {b} {l} {m} {r} {i} {j} {k} c d =
           let w = d.place (omega (arith, h, n, p, c.long)) in
           omega (arith, w, p, n);
     }
+
+pub drop_one : (t : List ℕ) (i : ℕ) → i < length t → drop i t ≡ (get_or t i 0 ∷ []) ++ drop (i + 1) t
+drop_one t i h = drop-cons t i 0 h ∙ ap (λ (j : ℕ). get_or t i 0 ∷ drop j t) (sym (add-one i))

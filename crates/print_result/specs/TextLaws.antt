@@ -83,6 +83,10 @@ more_lines f n =
     let y : 0 + (n - 0) ≡ n = omega arith in
     ap (λ (k : ℕ). each f k 0) z ∙ each_more f (n - 0) 0 ∙ ap (λ (k : ℕ). each f (n - 0) 0 ++ f k) y
 
+-- how many entries five lists have
+pub entries : (n p q r s t : ℕ) {a b c d m : ℕ} → a ≡ min s t → b ≡ min q r → c ≡ min p b → d ≡ min c a → m ≡ min n d → m ≡ min n (min (min p (min q r)) (min s t))
+entries n p q r s t u v w x y = rw (y, x, w, v, u)
+
 -- ---- a part of the terms, line by line: the lines of the whole lists at its place
 each_shifted : (f g : ℕ → List ℕ) (s k i j : ℕ) → j ≡ s + i → ((n : ℕ) → n < i + k → f n ≡ g (s + n)) → each f k i ≡ each g k j
 unfolding each

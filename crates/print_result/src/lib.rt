@@ -30,10 +30,7 @@ impl Kind {
     fn is_followed(self) -> bool
         ensures { result ≡ followed self }
     {
-        match self {
-            Kind::Reduced | Kind::Unchanged => true,
-            Kind::Infeasible => false,
-        }
+        matches!(self, Kind::Reduced | Kind::Unchanged)
     }
 }
 

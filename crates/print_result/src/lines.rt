@@ -1,6 +1,6 @@
 // The lines of the text but those of the rows.
-ghost use Rattle.std.specs.Prelude.{length};
-ghost use Rattle.print_result.specs.Text.{answer_line, counts_line, bound_line, bound_lines, validate_line, validate_lines, refused_line, off_line, whole_line};
+ghost use Rattle.std.specs.Prelude.{◌++◌, length};
+ghost use Rattle.print_result.specs.Text.{answer_line, counts_line, bound_line, bound_lines, validate_lines, refused_line, off_line, whole_line, number, newline};
 
 use crate::Kind;
 use crate::put::{put_float, put_number, put_text};
@@ -40,20 +40,21 @@ fn put_bound<S: Sink>(out: &mut S, v: usize, lower: f64, upper: f64)
     out.put(b'\n');
 }
 
-// Every bound. No `zip`: each line has its place too, and the place is what the invariant reads.
+// Every bound. Two lists, as C lends them.
 pub(crate) fn put_bounds<S: Sink>(out: &mut S, lower: &[f64], upper: &[f64])
     ensures { S.wrote out.old (bound_lines (length lower.now) lower.now upper.now) out.new }
 {
-    for v in 0..lower.len().min(upper.len()) {
-        put_bound(out, v, lower[v], upper[v]);
+    for (v, (lower, upper)) in lower.iter().zip(upper).enumerate() {
+        put_bound(out, v, *lower, *upper);
     }
 }
 
-fn put_validate<S: Sink>(out: &mut S, r: usize)
-    ensures { S.wrote out.old (validate_line r) out.new }
+// A line of a word and a number.
+fn put_named<S: Sink>(out: &mut S, word: &[u8], n: usize)
+    ensures { S.wrote out.old (word.now ++ (number n ++ newline)) out.new }
 {
-    put_text(out, b"validate");
-    put_number(out, r);
+    put_text(out, word);
+    put_number(out, n);
     out.put(b'\n');
 }
 
@@ -61,16 +62,14 @@ pub(crate) fn put_kept<S: Sink>(out: &mut S, kept: &[usize])
     ensures { S.wrote out.old (validate_lines (length kept.now) kept.now) out.new }
 {
     for r in kept {
-        put_validate(out, *r);
+        put_named(out, b"validate", *r);
     }
 }
 
 pub(crate) fn put_refused<S: Sink>(out: &mut S, n: usize)
     ensures { S.wrote out.old (refused_line n) out.new }
 {
-    put_text(out, b"refused");
-    put_number(out, n);
-    out.put(b'\n');
+    put_named(out, b"refused", n);
 }
 
 #[tactic(auto, unfolding(crate::specs::Text::ascii, crate::specs::Text::whole_line))]

@@ -95,6 +95,9 @@ when_false : {a : Bool} (b : Bool) → a ≡ false → (not a && b) ≡ b
 when_false b e = rw e
 
 -- ---- row r as written, in the slices
+abbrev pub row_terms : Rows → ℕ → List Term
+row_terms rows r = span_terms rows.index.now rows.coeff.now (get_or rows.starts.now r 0) (get_or rows.starts.now (r + 1) 0)
+
 pub record SpanAt (s : Shape) (rows : Rows) (r : ℕ) : Type 0 where
   pub starts : r + 1 < length rows.starts.now
   pub cmps : r < length rows.cmp.now
@@ -126,7 +129,7 @@ module _ {s : Shape} {rows : Rows} {r : ℕ} where
   pub span_ready : {f : Floats} → ReadyF (Written rows) s f → r < s.rows → SpanAt s rows r
   span_ready R p = span_at R.ready.known R.ready.call p
 
-  span_length : SpanAt s rows r → length (span_terms rows.index.now rows.coeff.now (get_or rows.starts.now r 0) (get_or rows.starts.now (r + 1) 0)) ≡ get_or rows.starts.now (r + 1) 0 - get_or rows.starts.now r 0
+  span_length : SpanAt s rows r → length (row_terms rows r) ≡ get_or rows.starts.now (r + 1) 0 - get_or rows.starts.now r 0
   unfolding span_terms
   span_length x =
       let a = get_or rows.starts.now r 0 in
@@ -139,7 +142,7 @@ module _ {s : Shape} {rows : Rows} {r : ℕ} where
 
 -- its terms, its comparison and its right side
 module _ {rows : Rows} (r : ℕ) {M : Model} (k : Written rows M) where
-  pub written_is : written M r ≡ span_terms rows.index.now rows.coeff.now (get_or rows.starts.now r 0) (get_or rows.starts.now (r + 1) 0)
+  pub written_is : written M r ≡ row_terms rows r
   unfolding written nnz from upto span_terms
   written_is = rw (k.starts, k.index, k.coeff)
 
@@ -165,8 +168,8 @@ module _ {rows : Rows} (r : ℕ) {M : Model} (k : Written rows M) where
     verdict_is : (m : Float × Float) → slack_violates M.feas (op_of M r) m ≡ slack_violates s.feas (get_or rows.cmp.now r 0) m
     verdict_is m = ap (λ (x : Float). slack_violates x (op_of M r) m) (sym c.feas) ∙ ap (λ (x : ℕ). slack_violates s.feas x m) op_is
 
-    sum_is : (w : Work) → row_from (fixed_value w) (row_start (rhs_of M r)) (written M r) ≡ row_from (fixed_value w) (row_start (get_or rows.rhs.now r nan)) (span_terms rows.index.now rows.coeff.now (get_or rows.starts.now r 0) (get_or rows.starts.now (r + 1) 0))
-    sum_is w = ap (row_from (fixed_value w) (row_start (rhs_of M r))) written_is ∙ ap (λ (x : Float). row_from (fixed_value w) (row_start x) (span_terms rows.index.now rows.coeff.now (get_or rows.starts.now r 0) (get_or rows.starts.now (r + 1) 0))) rhs_is
+    sum_is : (w : Work) → row_from (fixed_value w) (row_start (rhs_of M r)) (written M r) ≡ row_from (fixed_value w) (row_start (get_or rows.rhs.now r nan)) (row_terms rows r)
+    sum_is w = ap (row_from (fixed_value w) (row_start (rhs_of M r))) written_is ∙ ap (λ (x : Float). row_from (fixed_value w) (row_start x) (row_terms rows r)) rhs_is
 
 -- ---- empty_row_violated, by whether the row rows.index.now trivially true
 module _ {s : Shape} {f : Floats} {rows : Rows} {r : ℕ} (p : r < s.rows) (t : Option Bool) {y : Bool}
@@ -180,7 +183,7 @@ module _ {s : Shape} {f : Floats} {rows : Rows} {r : ℕ} (p : r < s.rows) (t : 
       }
 
   pub empty_judged : (u : RowSum) (m : Implied) {z : Bool} → y ≡ false
-      → ReadsF Any s f (sum_of u) (λ M w. row_from (fixed_value w) (row_start (get_or rows.rhs.now r nan)) (span_terms rows.index.now rows.coeff.now (get_or rows.starts.now r 0) (get_or rows.starts.now (r + 1) 0))) → pair_of m ≡ row_slack (sum_of u)
+      → ReadsF Any s f (sum_of u) (λ M w. row_from (fixed_value w) (row_start (get_or rows.rhs.now r nan)) (row_terms rows r)) → pair_of m ≡ row_slack (sum_of u)
       → z ≡ slack_violates s.feas (get_or rows.cmp.now r 0) (pair_of m) → ReadsF (Written rows) s f z (λ M w. violated M.feas (op_of M r) (written M r) (rhs_of M r) (fixed_value w))
   empty_judged u m {z} e v em ez =
       record {

@@ -1,6 +1,7 @@
 -- The form of the readers' contracts, beside view's `Reads`: of a function that has the floats alone, or the model's slices alone. And what they know of the model.
-use Rattle.std.specs.Prelude.{ℕ, ◌<◌, ◌≡◌, List, length, get_or}
+use Rattle.std.specs.Prelude.{ℕ, ◌+◌, ◌<◌, ◌≤◌, ◌≡◌, List, length, get_or}
 use Rattle.std.proofs.Common.{arith, ap}
+use Rattle.definition.specs.declared.Rows.{Rows}
 use Rattle.definition.specs.Model.{Model, Row}
 use Rattle.definition.specs.Work.{Work, no_row}
 use Rattle.space.specs.declared.Shape.{Shape}
@@ -36,6 +37,10 @@ ready_floats {n = n} R = record { numbers = n; ready = R }
 -- the result is the definition's, of a function that the model alone decides and that has no call to look at
 pub record Tells {A : Type 0} (P : Model → Type 0) (z : A) (F : Model → A) : Type 0 where
   pub tells : (M : Model) → P M → F M ≡ z
+
+-- ---- row r stands in the slices
+abbrev pub RowIn : Rows → ℕ → Type 0
+RowIn rows r = (r + 1 < length rows.starts.now) × (r < length rows.cmp.now) × (r < length rows.rhs.now) × (get_or rows.starts.now r 0 ≤ get_or rows.starts.now (r + 1) 0)
 
 -- ---- the domains alone
 pub record Domains (ds : List ℕ) (M : Model) : Type 0 where

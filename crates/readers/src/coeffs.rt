@@ -42,8 +42,8 @@ pub fn row_coeff(starts: &[usize], w: &[f64], m: &[usize], s: Shape, r: usize, v
 }
 
 // The coefficient in the row as written that starts at `start`, which has the variable: the walk ends at it.
-// A `for` that returns it: `position` would count its place from `start`, which had to be added again, and
-// would have a None to answer that cannot be.
+// A `for` that returns it: `position` would count its place from `start`, which had to be added again. Either way an
+// answer has to be written for a variable that is not there. Two lists and no `Rows`: it asks of these two alone.
 pub fn written_coeff(index: &[usize], coeff: &[f64], start: usize, v: usize) -> f64
     requires { ReadyWritten index.now coeff.now start v }
     ensures { ReadsWritten index.now coeff.now start v result }

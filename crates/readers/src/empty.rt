@@ -1,6 +1,6 @@
 // `empty_row_consistent` of src/presolve/work.rs of microlp 0.7.0, changed: whether the row as written
 // is violated where every variable of it is fixed.
-ghost use Rattle.std.specs.Prelude.{◌≡◌, ◌+◌, ◌-◌, ◌≤◌, ◌<◌, length, get_or};
+ghost use Rattle.std.specs.Prelude.{◌≡◌, ◌+◌, ◌-◌, ◌<◌, get_or};
 ghost use Rattle.std.specs.Float.{nan};
 ghost use Rattle.tolerances.specs.Tol.{trivial_verdict, violated, row_start};
 ghost use Rattle.tolerances.specs.Answers.{option_of, sum_of};
@@ -8,11 +8,10 @@ ghost use Rattle.tolerances.specs.Terms.{row_from};
 ghost use Rattle.definition.specs.Model.{written, op_of, rhs_of};
 ghost use Rattle.definition.specs.Singles.{fixed_value};
 ghost use Rattle.space.specs.Store.{floats_of, HoldsF};
-ghost use Rattle.view.specs.Inv.{Below};
 ghost use Rattle.view.specs.Acts.{Any};
 ghost use Rattle.view.specs.Known.{Written};
-ghost use Rattle.readers.specs.Reading.{ReadyF, ReadsF};
-ghost use Rattle.readers.specs.Empty.{span_terms};
+ghost use Rattle.readers.specs.Reading.{ReadyF, ReadsF, RowIn};
+ghost use Rattle.readers.specs.Empty.{SpanAt, row_terms};
 
 use crate::vars::fixed_value;
 use definition::Rows;
@@ -21,7 +20,7 @@ use tolerances::{RowSum, trivial_row_verdict};
 
 // Of row r as handed in.
 pub fn verdict(rows: Rows, s: Shape, r: usize) -> Option<bool>
-    requires { (r + 1 < length rows.starts.now) × (r < length rows.cmp.now) × (r < length rows.rhs.now) × (get_or rows.starts.now r 0 ≤ get_or rows.starts.now (r + 1) 0) }
+    requires { RowIn rows r }
     ensures { option_of result ≡ trivial_verdict s.feas (get_or rows.entry.cmp.now r 0) (get_or rows.entry.starts.now (r + 1) 0 - get_or rows.entry.starts.now r 0) (get_or rows.entry.rhs.now r nan) }
 {
     let a = rows.starts[r];
@@ -29,23 +28,17 @@ pub fn verdict(rows: Rows, s: Shape, r: usize) -> Option<bool>
     trivial_row_verdict(e - a, rows.cmp[r], rows.rhs[r], s.feas)
 }
 
-// The sum over the terms as written that stand at a up to e, from a right side.
-fn fixed_sum(
-    index: &[usize],
-    coeff: &[f64],
-    w: &[f64],
-    s: Shape,
-    a: usize,
-    e: usize,
-    b: f64,
-) -> RowSum
-    requires a_le_e { (a ≤ e) × (e ≤ length index.now) × (e ≤ length coeff.now) × HoldsF s w.now }
-    requires below { Below s.vars index.now }
-    ensures { ReadsF Any s (floats_of s w.now) (sum_of result) (λ M u. row_from (fixed_value u) (row_start b) (span_terms index.now coeff.now a e)) }
+// The sum over the terms of row r as written, from its right side. Not `Row::implied_slack` over a closure: the values
+// stand in the working space, and what is promised is so of every state that it shows.
+fn fixed_sum(rows: Rows, w: &[f64], s: Shape, r: usize) -> RowSum
+    requires span { SpanAt s rows r × HoldsF s w.now }
+    ensures { ReadsF Any s (floats_of s w.now) (sum_of result) (λ M u. row_from (fixed_value u) (row_start (get_or rows.entry.rhs.now r nan)) (row_terms rows.entry r)) }
 {
-    let mut sum = RowSum::start(b);
-    for i in a..e {
-        sum = sum.with(coeff[i], fixed_value(w, s, index[i]));
+    let a = rows.starts[r];
+    let e = rows.starts[r + 1];
+    let mut sum = RowSum::start(rows.rhs[r]);
+    for (v, coeff) in rows.index[a..e].iter().zip(&rows.coeff[a..e]) {
+        sum = sum.with(*coeff, fixed_value(w, s, *v));
     }
     sum
 }
@@ -59,9 +52,7 @@ pub fn empty_row_violated(rows: Rows, w: &[f64], s: Shape, r: usize) -> bool
     if verdict(rows, s, r).unwrap_or(false) {
         return false;
     }
-    let a = rows.starts[r];
-    let e = rows.starts[r + 1];
-    fixed_sum(rows.index, rows.coeff, w, s, a, e, rows.rhs[r])
+    fixed_sum(rows, w, s, r)
         .slack()
         .violates(rows.cmp[r], s.feas)
 }

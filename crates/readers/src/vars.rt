@@ -28,7 +28,8 @@ pub fn is_int(domain: &[u8], s: Shape, v: usize) -> bool
     s.mip && is_int_domain(domain, v)
 }
 
-// = bound_tol. `upper` is a flag, as the definition's bound_tol has it.
+// = bound_tol. `upper` is a flag, as the definition's bound_tol has it: one function with that parameter is plainer
+// than two.
 pub fn bound_tol(w: &[f64], s: Shape, v: usize, upper: bool) -> f64
     requires { (v < s.vars) × HoldsF s w.now }
     ensures { ReadsF Any s (floats_of s w.now) result (λ M u. bound_tol M u v upper) }

@@ -55,6 +55,14 @@ none_below p n i e h = go (p i) refl
     go true q = absurd (true≢false (found p n i h q ∙ e))
     go false q = q
 
+-- ---- an index against the next one
+module _ (l : List ℕ) (i : ℕ) where
+  pub falls : get_or l (i + 1) 0 ≤ get_or l i 0 → leb (get_or l (suc i) 0) (get_or l i 0) ≡ true
+  falls h = le-leb (get_or l (suc i) 0) (get_or l i 0) (rw add-one at h)
+
+  pub rises : get_or l i 0 < get_or l (i + 1) 0 → leb (get_or l (suc i) 0) (get_or l i 0) ≡ false
+  rises h = lt-leb (get_or l (suc i) 0) (get_or l i 0) (rw add-one at h)
+
 -- ---- where each fails, none passes
 pub none_passes : (p : ℕ → Bool) (n : ℕ) → ((k : ℕ) → k < n → p k ≡ false) → some_below p n ≡ false
 unfolding some_below

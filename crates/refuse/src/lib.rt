@@ -19,7 +19,7 @@ pub const MAX_ROWS: usize = 8192;
 
 pub const MAX_TERMS: usize = 65536;
 
-// The lengths of the lent slices. Fields are in camel case so that definitions name them unquoted.
+// The lengths of the lent slices, of which C lends thirteen.
 #[derive(Clone, Copy)]
 pub struct Lent {
     pub lower: usize,

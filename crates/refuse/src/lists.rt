@@ -45,10 +45,10 @@ pub(crate) fn not_finite(xs: &[f64]) -> bool
 fn bound_wrong(l: f64, h: f64) -> bool
     ensures { result ≡ (is_nan l || is_nan h || eq l ∞f || eq h -∞f) }
 {
-    (l != l) | (h != h) | (l == floats::infinity()) | (h == -floats::infinity())
+    l.is_nan() | h.is_nan() | (l == f64::INFINITY) | (h == f64::NEG_INFINITY)
 }
 
-// Whether that is so of a variable's bounds.
+// Whether that is so of a variable's bounds. Two lists and no `Input`, here and below: each asks of these two alone.
 pub(crate) fn bounds_wrong(lower: &[f64], upper: &[f64]) -> bool
     ensures { result ≡ list_any (λ b. is_nan b.0 || is_nan b.1 || eq b.0 ∞f || eq b.1 -∞f) (zip lower.now upper.now) }
 {

@@ -1,5 +1,6 @@
 // The rows of the table of refusals, one function each. A row may rely on what the rows before it
-// rule out.
+// rule out, and its `requires` says on which. Tests are joined by `|`, since no side can fail: each row is then its definition by computing. With `||`
+// each test was a branch of the proof, and more to read than this.
 ghost use Rattle.std.specs.Prelude.{◌≡◌, false, ◌+◌, ◌≤◌, length};
 ghost use Rattle.definition.specs.Refusal as definition;
 ghost use Rattle.definition.specs.Refusal.{some_below, row_unordered};

@@ -30,7 +30,7 @@ fn set_coeff(starts: &[usize], w: &mut [f64], s: Shape, r: usize, i: usize, na: 
 }
 
 // = rebound_row, of a rewrite of t to the coefficient na that moves the bound to bp. starts, w, m, s and r are every step's (space
-// says why they stay apart); the rest is the rewrite.
+// says why they stay apart). na and bp are two numbers of a `Rewrite` whose bound is known to move, which its type does not say.
 fn rebound(
     starts: &[usize],
     w: &mut [f64],

@@ -94,7 +94,8 @@ fn add_binary(
 }
 
 // = rewrite_binding, of a row that holds t's new coefficient already: b is the row's bound and bp the
-// new one. The relaxation to add to bp. starts, w, m, s and r are every step's (space says why they stay apart).
+// new one. The relaxation to add to bp. starts, w, m, s and r are every step's (space says why they stay apart); b is read by one
+// callee and bp by the other.
 pub(crate) fn rewrite_binding(
     starts: &[usize],
     w: &mut [f64],

@@ -11,7 +11,7 @@ use definition::Infeasible;
 use space::Shape;
 use view::Lists;
 
-// = rounds, as many as there may be
+// = rounds, as many as there may be. The mode is the byte that a caller in C hands in (see after_waves).
 pub fn rounds(
     obj: &[f64],
     lists: Lists,

@@ -10,7 +10,18 @@ use Rattle.floats.specs.Num.{choose}
 abbrev pub row_part : {A : Type 0} → Bool → ℕ → ℕ → List A → List A → List A
 row_part rewritten from upto model other = slice from upto (choose rewritten other model)
 
+pub least_second : (a b : ℕ) {z : ℕ} → z ≡ min a b → z ≤ b
+least_second a b e = omega (arith, e)
+
 module _ {A : Type 0} where
+  end_clipped : (l : List A) (t e : ℕ) → e ≡ min t (length l) → take e l ≡ take t l
+  end_clipped l t e p = ap (λ (i : ℕ). take i l) p ∙ take_min t l
+
+  start_clipped : (l : List A) (f e a : ℕ) → length l ≤ e → a ≡ min f e → drop a l ≡ drop f l
+  start_clipped l f e a n p =
+      let z : min a (length l) ≡ min f (length l) = omega (arith, n, p) in
+      sym (drop_min a l) ∙ ap (λ (i : ℕ). drop i l) z ∙ drop_min f l
+
   pub take_slice : (l : List A) (a e : ℕ) → a ≤ e → e ≤ length l → take (e - a) (drop a l) ≡ slice a e l
   take_slice l a e p q =
       let z : e ≡ a + (e - a) = omega (arith, p) in

@@ -9,7 +9,7 @@ ghost use Rattle.row_terms.specs.Parts.{row_part};
 ghost use Rattle.row_terms.specs.Place.{place_of};
 
 // Where a row's terms stand: count of them, from start on, in the rewritten lists where rewritten is 1, in the model's where it is 0.
-// A byte, and no bool, since C is handed it as it is.
+// A byte, and no bool, since C is handed it as it is: what the C call promises is an equation with this record.
 #[derive(Clone, Copy)]
 pub struct Place {
     pub rewritten: u8,

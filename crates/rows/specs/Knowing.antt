@@ -79,6 +79,11 @@ span_at {ss = ss} {r = r} R q p =
     let b : get_or M.starts (r + 1) 0 ≡ get_or ss (r + 1) 0 = ap (λ (x : List ℕ). get_or x (r + 1) 0) e in
     record { long = omega (arith, c.starts, ap length e, l); rise = omega (arith, a, b, c.rise r l) }
 
+-- x is of row r, as the floats and the rows' starts have it
+pub record LimitsOf (ss : List ℕ) (s : Shape) (f : Floats) (r : ℕ) (x : Limits) : Type 0 where
+  pub read : ReadsLimits s f r x.terms x
+  pub written : x.terms ≡ get_or ss (r + 1) 0 - get_or ss r 0
+
 -- the model's tolerance and the row's count of terms, as the formulas have them
 pub of_call : {M : Model} {s : Shape} {ss : List ℕ} {r z : ℕ} → Call M s → Spans ss M → z ≡ get_or ss (r + 1) 0 - get_or ss r 0 → Of M r s.feas z
 unfolding nnz from upto

@@ -1,14 +1,15 @@
 // What the steps share of one row, of src/presolve/work.rs of microlp 0.7.0, changed: how many terms it
-// has as written, and dropping it.
+// has as written, its limits, and dropping it.
 #![tactic(auto)]
 
 ghost use Rattle.std.specs.Prelude.{◌≡◌, ◌+◌, ◌-◌, ◌<◌, get_or};
 ghost use Rattle.definition.specs.Work.{drop_row};
-ghost use Rattle.space.specs.Store.{numbers_of, HoldsN};
+ghost use Rattle.space.specs.Store.{floats_of, numbers_of, HoldsF, HoldsN};
 ghost use Rattle.view.specs.Acts.{ActsN, Any};
 ghost use Rattle.readers.specs.Reading.{row_of};
-ghost use Rattle.rows.specs.Knowing.{SpanAt};
+ghost use Rattle.rows.specs.Knowing.{SpanAt, LimitsOf};
 
+use formulas::Limits;
 use space::{Alive, Dropped, Shape};
 
 // = nnz
@@ -17,6 +18,15 @@ pub fn written_terms(starts: &[usize], r: usize) -> usize
     ensures { result ≡ get_or starts.now (r + 1) 0 - get_or starts.now r 0 }
 {
     starts[r + 1] - starts[r]
+}
+
+// The row's limits, of all terms that it has as written
+pub fn limits(starts: &[usize], w: &[f64], s: Shape, r: usize) -> Limits
+    requires r_lt_rows { (r < s.rows) × HoldsF s w.now }
+    requires span_at { SpanAt starts.now r }
+    ensures { LimitsOf starts.now s (floats_of s w.now) r result }
+{
+    readers::limits(w, s, r, written_terms(starts, r))
 }
 
 // = drop_row, of the row that stands in the state

@@ -1,11 +1,15 @@
 // Every prefix of a file but the file itself: for each length at which the first line that is printed
 // changes, the length and that line.
+ghost use Rattle.std.specs.Prelude.{◌≡◌, take, length};
+
 use presolve_file::TEXT_BYTES;
 use std::io;
 use std::io::Write;
 
 // What stands before the first line's end.
-fn first_line(text: &[u8]) -> &[u8] {
+fn first_line(text: &[u8]) -> &[u8]
+    ensures { result.now ≡ take (length result.now) text.now }
+{
     match text.iter().position(|byte| *byte == b'\n') {
         Some(end) => &text[..end],
         None => text,

@@ -21,7 +21,8 @@ use readers::{Emitted, Working};
 use space::Shape;
 use view::Lists;
 
-// Each variable at its corner, and the row dropped. Which corner is a flag, as the definition's fix_all has it.
+// Each variable at its corner, and the row dropped. Which corner is a flag, as the definition's fix_all has it: one function with the
+// definition's own parameter is plainer than two.
 fn force_row(lists: Lists, w: &mut [f64], m: &mut [usize], s: Shape, r: usize, minCorner: bool)
     requires r_lt_rows { (r < s.rows) × HoldsF s w.old × HoldsN s m.old × Alive (numbers_of s m.old) r }
     requires ready { Ready (Marks lists) s (floats_of s w.old) (numbers_of s m.old) }
@@ -32,7 +33,8 @@ fn force_row(lists: Lists, w: &mut [f64], m: &mut [usize], s: Shape, r: usize, m
     rows::drop_row(m, s, r);
 }
 
-// What the emitted activity makes of a row: its variables forced to a corner, the row dropped, or neither.
+// What the emitted activity makes of a row: its variables forced to a corner, the row dropped, or neither. Four ends, so no Option and
+// no Result.
 #[derive(Clone, Copy)]
 pub enum Ending {
     ForceMin,
@@ -84,6 +86,7 @@ fn reach_of(x: Limits, act: Activity) -> Result<bool, Infeasible>
     let below = x.below_lo(act);
     let high = x.near_max(act);
     let inside = x.within(act);
+    // Tests that are there already are joined by `|`, with no jump between them.
     if above | below {
         return Err(Infeasible);
     }
@@ -105,7 +108,7 @@ pub(crate) fn several_terms(
 {
     let starts = lists.rows.starts;
     let act = readers::activity::<Working>(starts, w, m, s, r);
-    let x = readers::limits(w, s, r, rows::written_terms(starts, r));
+    let x = rows::limits(starts, w, s, r);
     let reduces = reach_of(x, act)?;
     match end_of(lists, w, m, s, r, x, act, reduces) {
         Ending::ForceMin => force_row(lists, w, m, s, r, true),

@@ -37,7 +37,7 @@ fn singleton_int(
     ensures { Tries (Marks lists.entry) s (floats_of s w.old) (numbers_of s m.old)
         (floats_of s w.new) (numbers_of s m.new) result (λ M u. definition.singleton_int M r (row_of u r) one.v one.a one.blo one.bhi u) }
 {
-    let x = readers::limits(w, s, r, rows::written_terms(lists.rows.starts, r));
+    let x = rows::limits(lists.rows.starts, w, s, r);
     let lo = x.new_lower(one.a, one.blo, space::get::<Elo>(w, s, one.v));
     let hi = x.new_upper(one.a, one.bhi, space::get::<Ehi>(w, s, one.v));
     if lo > hi {
@@ -53,7 +53,7 @@ fn singleton_misses(starts: &[usize], w: &[f64], s: Shape, r: usize, one: One) -
     requires span_at { SpanAt starts.now r }
     ensures { ReadsRow (Spans starts.now) s (floats_of s w.now) r result (λ M u. definition.singleton_misses M r (row_of u r) one.v one.a one.blo one.bhi u) }
 {
-    let x = readers::limits(w, s, r, rows::written_terms(starts, r));
+    let x = rows::limits(starts, w, s, r);
     x.misses(one.a, one.blo, one.bhi, readers::emitted(w, s, one.v))
 }
 

@@ -1,7 +1,7 @@
 -- All rows, one after the other: what is left of the definition from row r on gives the whole; and that it keeps the invariant.
 use Prim.Native.Nat.{ℕ, zero, suc, ◌+◌, ◌-◌, ◌≤◌, ◌<◌}
 use Rattle.std.proofs.Common.{arith, add-one, ap, sym, ◌∙◌, subst}
-use Rattle.std.specs.Prelude.{◌≡◌, refl, Bool, List, length}
+use Rattle.std.specs.Prelude.{◌≡◌, refl, Bool, ◌||◌, List, length}
 use Rattle.std.proofs.Math.Bool.{false}
 use Rattle.definition.specs.Model.{Model}
 use Rattle.definition.specs.Work.{Work}
@@ -13,7 +13,7 @@ use Rattle.view.specs.Shows.{Shows}
 use Rattle.view.specs.Inv.{Inv}
 use Rattle.view.specs.Acts.{Ready}
 use Rattle.view.specs.Changes.{ActsBool, KeepsBool, ready_changed}
-use Rattle.tighten.specs.Rows.{inv_tighten_row, row_keeps}
+use Rattle.tighten.specs.Rows.{row_before, inv_tighten_row, row_keeps}
 
 -- ---- it keeps the invariant
 module _ {M : Model} {s : Shape} {k : ℕ} (c : Call M s) where
@@ -67,19 +67,20 @@ all_start {s = s} R =
     }
 
 module _ {P : Model → Type 0} {s : Shape} {r : ℕ} {changed : Bool} {f₀ f : Floats} {n₀ n : Numbers} (A : AtRow P s r changed f₀ n₀ f n) where
-  pub all_turn : {f' : Floats} {n' : Numbers} {z : Bool} → r < s.rows → ActsBool P s f n f' n' z (λ M w. tighten_row M r w changed) → AtRow P s (r + 1) z f₀ n₀ f' n'
+  pub all_turn : {f' : Floats} {n' : Numbers} {z : Bool} → r < s.rows → ActsBool P s f n f' n' z (λ M w. tighten_row M r w false) → AtRow P s (r + 1) (changed || z) f₀ n₀ f' n'
   all_turn p a =
       record {
         upto = omega (arith, p);
-        ready = ready_changed A.ready a (row_keeps r changed p);
+        ready = ready_changed A.ready a (row_keeps r p);
         left = λ M o k w m c h i.
             let l = A.left M o k w m c h i in
             record {
-              work = (tighten_row M r l.work changed).0;
+              work = (tighten_row M r l.work false).0;
               shows = a.does M o k l.work m c l.shows l.inv;
-              inv = (row_keeps {P = P} r changed p).keeps M k l.work m c l.inv;
+              inv = (row_keeps {P = P} r p).keeps M k l.work m c l.inv;
               rest =
-                  ap (tighten_from M (s.rows - (r + 1)) (r + 1) (tighten_row M r l.work changed).0) (sym (a.says M o k l.work m c l.shows l.inv))
+                  ap (λ (y : Bool). tighten_from M (s.rows - (r + 1)) (r + 1) (tighten_row M r l.work false).0 (changed || y)) (sym (a.says M o k l.work m c l.shows l.inv))
+                  ∙ ap (λ (y : Work × Bool). tighten_from M (s.rows - (r + 1)) (r + 1) y.0 y.1) (sym (row_before M r l.work changed))
                   ∙ from_next M (s.rows - (r + 1)) (s.rows - r) r (r + 1) l.work changed (omega (arith, p)) (add-one r) ∙ l.rest;
             };
       }

@@ -1,5 +1,5 @@
 -- The form of a rewrite's contract: the slices hold the carried row and the state as one, and the code has the rest by value.
-use Rattle.std.specs.Prelude.{ℕ, ◌≡◌, refl, Bool, true, false, List, Option, None, Some}
+use Rattle.std.specs.Prelude.{ℕ, ◌≡◌, refl, Bool, true, false, ◌||◌, List, Option, None, Some}
 use Rattle.std.proofs.Common.{subst}
 use Rattle.definition.specs.declared.Activity.{Activity}
 use Rattle.definition.specs.Model.{Model}
@@ -23,12 +23,20 @@ pub record Progress : Type 0 where
 abbrev pub begun : Activity → Bool → Progress
 begun act changed = record { act = act; changed = changed; broke = false }
 
+-- the same where something may have changed before
+abbrev pub or_before : Bool → Progress → Progress
+or_before b x = record { act = x.act; changed = b || x.changed; broke = x.broke }
+
 abbrev pub going : code.Progress → Progress
 going x = begun x.act x.changed
 
 -- a row that was given back leaves the loop, at the activity that it had
 abbrev pub left_at : Activity → Progress
 left_at old = record { act = old; changed = true; broke = true }
+
+left_before : (b : Bool) (old : Activity) → or_before b (left_at old) ≡ left_at old
+left_before true old = refl
+left_before false old = refl
 
 -- what the code answers of a step: no progress where the row was given back
 abbrev pub progressed : Activity → Option code.Progress → Progress
@@ -57,3 +65,7 @@ module _ {P : Model → Type 0} {s : Shape} {r : ℕ} {f f' : Floats} {n n' : Nu
 
   pub carries_none : y ≡ None → Carries P s r f n f' n' (progressed old y) F → Carries P s r f n f' n' (left_at old) F
   carries_none e t = subst (λ (u : Option code.Progress). Carries P s r f n f' n' (progressed old u) F) e t
+
+module _ {P : Model → Type 0} {s : Shape} {r : ℕ} {f f' : Floats} {n n' : Numbers} {F : Model → Work → Rewriting} where
+  pub carries_left : (b : Bool) {old : Activity} → Carries P s r f n f' n' (or_before b (left_at old)) F → Carries P s r f n f' n' (left_at old) F
+  carries_left b {old} t = subst (λ (z : Progress). Carries P s r f n f' n' z F) (left_before b old) t

@@ -16,13 +16,14 @@ use Rattle.view.specs.Call.{Call}
 use Rattle.view.specs.Inv.{RowInv, Inv}
 use Rattle.view.specs.Lists.{yes, either}
 use Rattle.view.specs.Rows.{inv_row}
+use Rattle.bounds.specs.Queued.{inv_queued}
 use Rattle.folds.specs.Counting.{true_false}
 use Rattle.folds.specs.Kept.{Kept, hold_kept}
 use Rattle.coeffs.specs.Keeping.{binding_by, after_inv}
 use Rattle.rewrites.specs.Nonzero.{rewrite_nonzero}
 use Rattle.rewrites.specs.After.{after_alive}
 use Rattle.tighten.specs.Over.{ended, term_here, rewrite_here, step_is, shown}
-use Rattle.tighten.specs.Queued.{inv_queued, inv_rewrote}
+use Rattle.tighten.specs.Counted.{inv_rewrote}
 
 -- ---- a row after a rewrite is as long
 rebound_length : (M : Model) (f : Form) (w : Work) (row : Row) (i v : ℕ) (a na bp : Float) → length (rebound_row M f w row i v a na bp).terms ≡ length row.terms

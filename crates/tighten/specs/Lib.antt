@@ -1,7 +1,7 @@
 -- What coefficient tightening's contracts cite, and its laws.
 pub mod Tightening
 pub mod Over
-pub mod Queued
+pub mod Counted
 pub mod Carried
 pub mod Keeping
 pub mod Rewritten

@@ -20,7 +20,7 @@ use Rattle.rewrites.specs.Rebinding.{besides_row}
 use Rattle.rewrites.specs.Staying.{row_again}
 
 -- a function of a choice is the choice of what it gives
-choose_map : {A B : Type 0} (g : A → B) (b : Bool) (x y : A) → choose b (g x) (g y) ≡ g (choose b x y)
+pub choose_map : {A B : Type 0} (g : A → B) (b : Bool) (x y : A) → choose b (g x) (g y) ≡ g (choose b x y)
 unfolding choose
 choose_map g true x y = refl
 choose_map g false x y = refl
@@ -129,6 +129,29 @@ pub loop_over : (M : Model) (n : ℕ) (f : Form) (nz : Float) (r i : ℕ) (z : R
 unfolding rewrite_loop
 loop_over M zero f nz r i z s = refl
 loop_over M (suc n) f nz r i z s = ap (rewrite_loop M n f nz r (suc i)) (step_over M f nz r i z s) ∙ loop_over M n f nz r (suc i) z (rewrite_step M f nz r i s)
+
+-- ---- something changed before: the flag is all that it makes another
+abbrev pub or_changed : Bool → Rewriting → Rewriting
+or_changed b s = record { row = s.row; act = s.act; work = s.work; changed = b || s.changed; broke = s.broke }
+
+end_changed : (M : Model) (r : ℕ) (row : Row) (old act : Activity) (w : Work) → ended M r row old act w ≡ or_changed true (ended M r row old act w)
+end_changed M r row old act w = choose_map (or_changed true) (gives_back row) (back (given_back M r w) old w) (on row act w)
+
+pub step_changed : (M : Model) (f : Form) (nz : Float) (r i : ℕ) (b : Bool) (s : Rewriting) → rewrite_step M f nz r i (or_changed b s) ≡ or_changed b (rewrite_step M f nz r i s)
+step_changed M f nz r i true s =
+    let t = term_here i s in
+    let x = rewrite_here M f nz i s in
+    let b = s.broke || eqb (rewrites x) 0 in
+    step_is M f nz r i (or_changed true s)
+    ∙ ap (choose b (or_changed true s)) (end_changed M r (row_after M f s.work s.row i t x) s.act (act_after f t.coeff x s.act) (queued r s.work))
+    ∙ choose_map (or_changed true) b s (end_of M f nz r i s)
+    ∙ ap (or_changed true) (sym (step_is M f nz r i s))
+step_changed M f nz r i false s = refl
+
+pub loop_changed : (M : Model) (n : ℕ) (f : Form) (nz : Float) (r i : ℕ) (b : Bool) (s : Rewriting) → rewrite_loop M n f nz r i (or_changed b s) ≡ or_changed b (rewrite_loop M n f nz r i s)
+unfolding rewrite_loop
+loop_changed M zero f nz r i b s = refl
+loop_changed M (suc n) f nz r i b s = ap (rewrite_loop M n f nz r (suc i)) (step_changed M f nz r i b s) ∙ loop_changed M n f nz r (suc i) b (rewrite_step M f nz r i s)
 
 -- ---- what the slices show of it: the carried row is stored
 abbrev pub shown : ℕ → Rewriting → Work

@@ -16,6 +16,7 @@ use Rattle.view.specs.Inv.{Inv}
 use Rattle.view.specs.Lists.{yes, no, one_is}
 use Rattle.view.specs.Acts.{Ready, ActsN, Any}
 use Rattle.view.specs.Rows.{row_now, inv_row}
+use Rattle.bounds.specs.Queued.{inv_queued}
 use Rattle.readers.specs.Reading.{row_of, Alive}
 use Rattle.readers.specs.RowAt.{row_alive, row_inv, alive_of}
 use Rattle.folds.specs.Apart.{elsewhere, untouched, outside, other_shown}
@@ -24,7 +25,7 @@ use Rattle.folds.specs.Holding.{Holds}
 use Rattle.rewrites.specs.Staying.{row_again}
 use Rattle.tighten.specs.Over.{back, on, ended, queued_rows, shown}
 use Rattle.tighten.specs.Carried.{progress_of, Carries}
-use Rattle.tighten.specs.Queued.{inv_queued, rewrote_acts}
+use Rattle.tighten.specs.Counted.{rewrote_acts}
 use Rattle.tighten.specs.Keeping.{given_is, touched_inv}
 
 -- ---- put_touched: row r, alone, is marked as rewritten

@@ -1,5 +1,5 @@
 -- A row's rewriting: which rows the step looks at, by their marks and their one finite side, and that all of it keeps the invariant.
-use Rattle.std.specs.Prelude.{ℕ, ◌<◌, ◌≡◌, refl, Bool, true, false, ◌&&◌, List, length, get_or, Float}
+use Rattle.std.specs.Prelude.{ℕ, ◌<◌, ◌≡◌, refl, Bool, true, false, ◌&&◌, ◌||◌, List, length, get_or, Float}
 use Rattle.std.proofs.Common.{arith, sym, ◌∙◌, subst}
 use Rattle.std.proofs.Math.Path.{ap}
 use Rattle.floats.specs.Num.{choose}
@@ -8,7 +8,7 @@ use Rattle.definition.specs.Model.{Model, Row}
 use Rattle.definition.specs.Work.{Work}
 use Rattle.definition.specs.Activities.{activity}
 use Rattle.definition.specs.Rewrites.{Form, le_form, ge_form, no_form, form_of, vacuous_room}
-use Rattle.definition.specs.Tighten.{eligible, spared, tighten_form, tighten_by, tighten_row}
+use Rattle.definition.specs.Tighten.{Rewriting, eligible, rewrite_loop, spared, tighten_form, tighten_by, tighten_row}
 use Rattle.definition.specs.Choices.{and_left}
 use Rattle.formulas.specs.declared.Form as forms
 use Rattle.formulas.specs.declared.Form.TheVariants.{Le, Ge}
@@ -21,7 +21,7 @@ use Rattle.view.specs.declared.Lists.{Lists}
 use Rattle.view.specs.Call.{Call}
 use Rattle.view.specs.Shows.{is_one, Shows}
 use Rattle.view.specs.Inv.{Inv}
-use Rattle.view.specs.Lists.{yes, no, either, one_is, one_not, get_d_map, length_map}
+use Rattle.view.specs.Lists.{yes, no, either, one_is, one_not, zero_is, get_d_map, length_map}
 use Rattle.view.specs.Acts.{Ready, Reads, of_numbers, ready_after}
 use Rattle.view.specs.Changes.{ActsBool, KeepsBool}
 use Rattle.view.specs.Known.{Spans}
@@ -29,9 +29,10 @@ use Rattle.readers.specs.Reading.{row_of, Alive}
 use Rattle.readers.specs.Limits.{ReadsLimits}
 use Rattle.readers.specs.RowAt.{row_shown}
 use Rattle.coeffs.specs.Eligible.{Binaries, count_all}
+use Rattle.tighten.specs.Over.{choose_map, closed, loop_changed}
 use Rattle.tighten.specs.Carried.{begun}
 use Rattle.tighten.specs.Tightening.{Tightening, tightening_spans, tightening_binaries}
-use Rattle.tighten.specs.Queued.{looked, inv_looked, looked_keeps, looked_acts}
+use Rattle.tighten.specs.Counted.{inv_looked, looked, looked_acts, looked_keeps}
 use Rattle.tighten.specs.Keeping.{good_shown, loop_good}
 use Rattle.tighten.specs.Loop.{loop_at}
 
@@ -48,13 +49,13 @@ bool_none : {P : Model → Type 0} {s : Shape} {f : Floats} {n : Numbers} {z : B
 bool_none = record { does = λ M o k w p c h i. h; says = λ M o k w p c h i. refl }
 
 -- ---- tighten_form: the row's activity, the room of its vacuous branch, how many terms are eligible, and whether it is left alone
-module _ (M : Model) (form : Form) (r : ℕ) (w : Work) (changed : Bool) where
+module _ (M : Model) (form : Form) (r : ℕ) (w : Work) where
   abbrev rewritten_as : Activity → Float → Bool → Work × Bool
-  rewritten_as act nz b = choose b (w, changed) (loop_at form nz r (begun act changed) M w)
+  rewritten_as act nz b = choose b (w, false) (loop_at form nz r (begun act false) M w)
 
   form_is_lem : (act : Activity) (nz : Float) (k : ℕ) (b : Bool) → activity M w (row_of w r) true ≡ act → vacuous_room form (row_of w r) act ≡ nz
       → eligible M form nz w (row_of w r) act (row_of w r).terms 0 ≡ k → spared M (row_of w r) k ≡ b
-      → tighten_form M form r (row_of w r) w changed ≡ rewritten_as act nz b
+      → tighten_form M form r (row_of w r) w false ≡ rewritten_as act nz b
   unfolding tighten_form
   form_is_lem act nz k b ea en ek eb =
       ap (λ (a : Activity). rewritten_as a (vacuous_room form (row_of w r) a) (spared M (row_of w r) (eligible M form (vacuous_room form (row_of w r) a) w (row_of w r) a (row_of w r).terms 0))) ea
@@ -63,31 +64,39 @@ module _ (M : Model) (form : Form) (r : ℕ) (w : Work) (changed : Bool) where
       ∙ ap (rewritten_as act nz) eb
 
 -- in the state as the slices show it
-abbrev pub form_at : Form → ℕ → Bool → Model → Work → Work × Bool
-form_at form r changed M w = tighten_form M form r (row_of w r) w changed
+abbrev pub form_at : Form → ℕ → Model → Work → Work × Bool
+form_at form r M w = tighten_form M form r (row_of w r) w false
 
-module _ {lists : Lists} {s : Shape} (form : Form) (r : ℕ) (changed : Bool) {f : Floats} {n : Numbers}
+module _ {lists : Lists} {s : Shape} (form : Form) (r : ℕ) {f : Floats} {n : Numbers}
     (p : r < s.rows) (a : Alive n r) {act : Activity} (A : Reads (Spans lists.rows.starts.now) s f n act (λ M w. activity M w (row_of w r) true))
     {lim : Limits} {terms : ℕ} (L : ReadsLimits s f r terms lim) {nz : Float} (en : nz ≡ vacuous_room form (bare lim) act) {d : ℕ}
     (E : Reads (Binaries lists.domain.now lists.rows.starts.now) s f n d (count_all form nz act r)) {len : ℕ} (el : len ≡ get_or n.len r 0) {b : Bool}
     (S : ByParams b (λ M. spared_at M len d)) where
-  tests : (M : Model) (o : List ℕ) (k : ℕ) (w : Work) → Tightening lists M → Call M s → Shows M f n o w → Inv M k w → form_at form r changed M w ≡ rewritten_as M form r w changed act nz b
+  tests : (M : Model) (o : List ℕ) (k : ℕ) (w : Work) → Tightening lists M → Call M s → Shows M f n o w → Inv M k w → form_at form r M w ≡ rewritten_as M form r w act nz b
   tests M o k w m c h i =
-      form_is_lem M form r w changed act nz d b
+      form_is_lem M form r w act nz d b
       (A.reads M o k w (tightening_spans M m) c h i)
       (sym (vacuous_room_of form act (L.has M n o w c h a)) ∙ sym en)
       (E.reads M o k w (tightening_binaries M m) c h i)
       (sym (spared_of M (row_of w r) d) ∙ ap (λ (j : ℕ). spared_at M j d) (sym (el ∙ (row_shown c h p a).len)) ∙ sym (S.of M c.params))
 
-  pub form_spared : b ≡ true → ActsBool (Tightening lists) s f n f n changed (form_at form r changed)
-  form_spared e = bool_same (form_at form r changed) (λ M w. (w, changed)) (λ M o k w m c h i. tests M o k w m c h i ∙ yes _ _ e) bool_none
+  pub form_spared : b ≡ true → ActsBool (Tightening lists) s f n f n false (form_at form r)
+  form_spared e = bool_same (form_at form r) (λ M w. (w, false)) (λ M o k w m c h i. tests M o k w m c h i ∙ yes _ _ e) bool_none
 
   pub form_rewrites : {f' : Floats} {n' : Numbers} {z : Bool} → b ≡ false → ActsBool (Tightening lists) s f n f' n' z
-      (loop_at form nz r (begun act changed)) → ActsBool (Tightening lists) s f n f' n' z
-      (form_at form r changed)
-  form_rewrites e = bool_same (form_at form r changed) (loop_at form nz r (begun act changed)) (λ M o k w m c h i. tests M o k w m c h i ∙ no _ _ e)
+      (loop_at form nz r (begun act false)) → ActsBool (Tightening lists) s f n f' n' z
+      (form_at form r)
+  form_rewrites e = bool_same (form_at form r) (loop_at form nz r (begun act false)) (λ M o k w m c h i. tests M o k w m c h i ∙ no _ _ e)
 
 -- ---- tighten_alive: by the row's form
+by_le : (M : Model) (r : ℕ) (row : Row) (w : Work) (changed : Bool) → tighten_by M le_form r row w changed ≡ tighten_form M le_form r row w changed
+unfolding tighten_by
+by_le M r row w changed = refl
+
+by_ge : (M : Model) (r : ℕ) (row : Row) (w : Work) (changed : Bool) → tighten_by M ge_form r row w changed ≡ tighten_form M ge_form r row w changed
+unfolding tighten_by
+by_ge M r row w changed = refl
+
 by_form : (g : forms.Form) (M : Model) (r : ℕ) (row : Row) (w : Work) (changed : Bool) → tighten_by M (form_is g) r row w changed ≡ tighten_form M (form_is g) r row w changed
 unfolding tighten_by
 by_form Le M r row w changed = refl
@@ -97,8 +106,8 @@ by_none : (M : Model) (r : ℕ) (row : Row) (w : Work) (changed : Bool) → tigh
 unfolding tighten_by
 by_none M r row w changed = refl
 
-abbrev pub alive_at : ℕ → Bool → Model → Work → Work × Bool
-alive_at r changed M w = tighten_by M (form_of (row_of w r)) r (row_of w r) (looked r w) changed
+abbrev pub alive_at : ℕ → Model → Work → Work × Bool
+alive_at r M w = tighten_by M (form_of (row_of w r)) r (row_of w r) (looked r w) false
 
 form_here : {s : Shape} {f : Floats} {n : Numbers} {r terms : ℕ} {lim : Limits} {form : Form} → Alive n r → ReadsLimits s f r terms lim → form ≡ form_of (bare lim)
     → {M : Model} {o : List ℕ} {w : Work} → Call M s → Shows M f n o w → form_of (row_of w r) ≡ form
@@ -120,25 +129,25 @@ module _ {P : Model → Type 0} {s : Shape} {f : Floats} {n n₁ : Numbers} (r :
         says = λ M o k w p c h i. t.says M o k (looked r w) p c (a.does M _ o k w p c h i) (inv_looked r w i);
       }
 
-  module _ (changed : Bool) (a : Alive n r) {lim : Limits} {terms : ℕ} (L : ReadsLimits s f r terms lim) {form : Form} (ef : form ≡ form_of (bare lim)) where
-    pub alive_form : (g : forms.Form) {f' : Floats} {n' : Numbers} {z : Bool} → form ≡ form_is g → ActsBool P s f n₁ f' n' z (form_at (form_is g) r changed)
-        → ActsBool P s f n f' n' z (alive_at r changed)
+  module _ (a : Alive n r) {lim : Limits} {terms : ℕ} (L : ReadsLimits s f r terms lim) {form : Form} (ef : form ≡ form_of (bare lim)) where
+    pub alive_form : (g : forms.Form) {f' : Floats} {n' : Numbers} {z : Bool} → form ≡ form_is g → ActsBool P s f n₁ f' n' z (form_at (form_is g) r)
+        → ActsBool P s f n f' n' z (alive_at r)
     alive_form g e t =
-        bool_same (alive_at r changed) (λ M w. form_at (form_is g) r changed M (looked r w))
-        (λ M o k w p c h i. ap (λ (y : Form). tighten_by M y r (row_of w r) (looked r w) changed) (form_here a L ef c h ∙ e) ∙ by_form g M r (row_of w r) (looked r w) changed) (then_looked t)
+        bool_same (alive_at r) (λ M w. form_at (form_is g) r M (looked r w))
+        (λ M o k w p c h i. ap (λ (y : Form). tighten_by M y r (row_of w r) (looked r w) false) (form_here a L ef c h ∙ e) ∙ by_form g M r (row_of w r) (looked r w) false) (then_looked t)
 
-    pub alive_none : form ≡ no_form → ActsBool P s f n f n₁ changed (alive_at r changed)
+    pub alive_none : form ≡ no_form → ActsBool P s f n f n₁ false (alive_at r)
     alive_none e =
-        bool_same (alive_at r changed) (λ M w. (looked r w, changed))
-        (λ M o k w p c h i. ap (λ (y : Form). tighten_by M y r (row_of w r) (looked r w) changed) (form_here a L ef c h ∙ e) ∙ by_none M r (row_of w r) (looked r w) changed) (then_looked bool_none)
+        bool_same (alive_at r) (λ M w. (looked r w, false))
+        (λ M o k w p c h i. ap (λ (y : Form). tighten_by M y r (row_of w r) (looked r w) false) (form_here a L ef c h ∙ e) ∙ by_none M r (row_of w r) (looked r w) false) (then_looked bool_none)
 
 -- ---- tighten_row: an alive row whose inputs changed
-module _ (M : Model) (r : ℕ) (w : Work) (changed : Bool) where
-  row_looked : (row_of w r).alive && get_or w.coeff_dirty r false ≡ true → tighten_row M r w changed ≡ alive_at r changed M w
+module _ (M : Model) (r : ℕ) (w : Work) where
+  row_looked : (row_of w r).alive && get_or w.coeff_dirty r false ≡ true → tighten_row M r w false ≡ alive_at r M w
   unfolding tighten_row
   row_looked e = yes _ _ e
 
-  row_left : (row_of w r).alive && get_or w.coeff_dirty r false ≡ false → tighten_row M r w changed ≡ (w, changed)
+  row_left : (row_of w r).alive && get_or w.coeff_dirty r false ≡ false → tighten_row M r w false ≡ (w, false)
   unfolding tighten_row
   row_left e = no _ _ e
 
@@ -156,25 +165,56 @@ module _ {M : Model} {s : Shape} {f : Floats} {n : Numbers} {o : List ℕ} {k : 
       let l : length n.coeff_dirty ≡ length w.coeff_dirty = sym (length_map is_one n.coeff_dirty) ∙ ap length h.coeff_dirty in
       ap (λ (b : List Bool). get_or b r false) (sym h.coeff_dirty) ∙ get_d_map is_one n.coeff_dirty r 0 false (omega (arith, p, l, i.coeff_dirties, c.rows)) ∙ ap is_one (sym e)
 
-module _ {P : Model → Type 0} {s : Shape} (r : ℕ) (changed : Bool) {f : Floats} {n : Numbers} (p : r < s.rows) {v : ℕ} (ev : v ≡ get_or n.alive r 0) where
-  pub row_dead : (v ≡ 1 → ⊥) → ActsBool P s f n f n changed (λ M w. tighten_row M r w changed)
+module _ {P : Model → Type 0} {s : Shape} (r : ℕ) {f : Floats} {n : Numbers} (p : r < s.rows) {v : ℕ} (ev : v ≡ get_or n.alive r 0) where
+  pub row_dead : (v ≡ 1 → ⊥) → ActsBool P s f n f n false (λ M w. tighten_row M r w false)
   row_dead ne =
-      bool_same (λ M w. tighten_row M r w changed) (λ M w. (w, changed))
-      (λ M o k w m c h i. row_left M r w changed (ap (λ (y : Bool). y && get_or w.coeff_dirty r false) (alive_flag r p c h i ev ∙ one_not v ne))) bool_none
+      bool_same (λ M w. tighten_row M r w false) (λ M w. (w, false))
+      (λ M o k w m c h i. row_left M r w (ap (λ (y : Bool). y && get_or w.coeff_dirty r false) (alive_flag r p c h i ev ∙ one_not v ne))) bool_none
 
   module _ {d : ℕ} (ed : d ≡ get_or n.coeff_dirty r 0) where
-    pub row_seen : (d ≡ 1 → ⊥) → ActsBool P s f n f n changed (λ M w. tighten_row M r w changed)
+    pub row_seen : (d ≡ 1 → ⊥) → ActsBool P s f n f n false (λ M w. tighten_row M r w false)
     row_seen ne =
-        bool_same (λ M w. tighten_row M r w changed) (λ M w. (w, changed))
-        (λ M o k w m c h i. row_left M r w changed (and_false (row_of w r).alive _ (dirty_flag r p c h i ed ∙ one_not d ne))) bool_none
+        bool_same (λ M w. tighten_row M r w false) (λ M w. (w, false))
+        (λ M o k w m c h i. row_left M r w (and_false (row_of w r).alive _ (dirty_flag r p c h i ed ∙ one_not d ne))) bool_none
 
-    pub row_goes : {f' : Floats} {n' : Numbers} {z : Bool} → v ≡ 1 → d ≡ 1 → ActsBool P s f n f' n' z (alive_at r changed) → ActsBool P s f n f' n' z (λ M w. tighten_row M r w changed)
+    pub row_goes : {f' : Floats} {n' : Numbers} {z : Bool} → v ≡ 1 → d ≡ 1 → ActsBool P s f n f' n' z (alive_at r) → ActsBool P s f n f' n' z (λ M w. tighten_row M r w false)
     row_goes one dirty t =
-        bool_same (λ M w. tighten_row M r w changed) (alive_at r changed)
+        bool_same (λ M w. tighten_row M r w false) (alive_at r)
         (λ M o k w m c h i.
         let x : (row_of w r).alive ≡ true = alive_flag r p c h i ev ∙ ap is_one one ∙ one_is in
         let y : get_or w.coeff_dirty r false ≡ true = dirty_flag r p c h i ed ∙ ap is_one dirty ∙ one_is in
-        row_looked M r w changed (ap (λ (b : Bool). b && get_or w.coeff_dirty r false) x ∙ y)) t
+        row_looked M r w (ap (λ (b : Bool). b && get_or w.coeff_dirty r false) x ∙ y)) t
+
+-- ---- a change before is one after
+abbrev flag_or : Bool → Work × Bool → Work × Bool
+flag_or b y = (y.0, b || y.1)
+
+module _ (M : Model) (r : ℕ) (row : Row) (w : Work) where
+  form_before : (form : Form) (b : Bool) → tighten_form M form r row w b ≡ flag_or b (tighten_form M form r row w false)
+  unfolding tighten_form
+  form_before form true =
+      let act = activity M w row true in
+      let nz = vacuous_room form row act in
+      let s : Rewriting = record { row = row; act = act; work = w; changed = false; broke = false } in
+      let b = spared M row (eligible M form nz w row act row.terms 0) in
+      ap (λ (y : Rewriting). choose b (w, true) (closed r y)) (loop_changed M (length row.terms) form nz r 0 true s)
+      ∙ choose_map (flag_or true) b (w, false) (closed r (rewrite_loop M (length row.terms) form nz r 0 s))
+  form_before form false = refl
+
+  by_before : (form : Form) (b : Bool) → tighten_by M form r row w b ≡ flag_or b (tighten_by M form r row w false)
+  unfolding tighten_by
+  by_before le_form b = form_before le_form b
+  by_before ge_form b = form_before ge_form b
+  by_before no_form true = refl
+  by_before no_form false = refl
+
+pub row_before : (M : Model) (r : ℕ) (w : Work) (b : Bool) → tighten_row M r w b ≡ ((tighten_row M r w false).0, b || (tighten_row M r w false).1)
+unfolding tighten_row
+row_before M r w true =
+    let c = (row_of w r).alive && get_or w.coeff_dirty r false in
+    ap (λ (y : Work × Bool). choose c y (w, true)) (by_before M r (row_of w r) (looked r w) (form_of (row_of w r)) true)
+    ∙ choose_map (flag_or true) c (tighten_by M (form_of (row_of w r)) r (row_of w r) (looked r w) false) (w, false)
+row_before M r w false = refl
 
 -- ---- it keeps the invariant
 module _ {M : Model} {s : Shape} {k : ℕ} (c : Call M s) (r : ℕ) (p : r < length M.rhs) where
@@ -195,5 +235,5 @@ module _ {M : Model} {s : Shape} {k : ℕ} (c : Call M s) (r : ℕ) (p : r < len
   inv_tighten_row w changed i =
       either (λ (y : Work × Bool). Inv M k y.0) _ (λ e. inv_by (form_of (row_of w r)) (looked r w) changed (inv_looked r w i) (and_left (row_of w r).alive _ e)) (λ e. i)
 
-pub row_keeps : {P : Model → Type 0} {s : Shape} (r : ℕ) (changed : Bool) → r < s.rows → KeepsBool P s (λ M w. tighten_row M r w changed)
-row_keeps r changed p = record { keeps = λ M k w m c i. inv_tighten_row c r (omega (arith, p, c.rows)) w changed i }
+pub row_keeps : {P : Model → Type 0} {s : Shape} (r : ℕ) → r < s.rows → KeepsBool P s (λ M w. tighten_row M r w false)
+row_keeps r p = record { keeps = λ M k w m c i. inv_tighten_row c r (omega (arith, p, c.rows)) w false i }

@@ -1,7 +1,8 @@
 -- One term of a row at work: it is left alone, or rewritten in the slices.
-use Rattle.std.specs.Prelude.{ℕ, ◌+◌, ◌<◌, ◌≡◌, Bool, true, false, ◌||◌, List, eqb, length, get_or, Float, Option, None, Some}
+use Rattle.std.specs.Prelude.{ℕ, zero, suc, ◌+◌, ◌<◌, ◌≡◌, Bool, true, false, ◌||◌, List, eqb, length, get_or, Float, Option, None, Some}
 use Rattle.std.proofs.Math.Path.{refl}
 use Rattle.std.proofs.Common.{arith, ap, sym, ◌∙◌, subst}
+use Rattle.std.proofs.Math.Dec.{eqb-suc-zero}
 use Rattle.std.specs.Float.{nan}
 use Rattle.tolerances.specs.Tol.{Term, term}
 use Rattle.definition.specs.declared.Activity.{Activity}
@@ -31,11 +32,15 @@ use Rattle.coeffs.specs.Keeping.{Nonzero}
 use Rattle.rewrites.specs.Nonzero.{rewrite_nonzero}
 use Rattle.rewrites.specs.After.{row_after_keeps, after_alive}
 use Rattle.tighten.specs.Tightening.{Tightening, tightening_spans, tightening_written, tightening_domains}
-use Rattle.tighten.specs.Over.{ended, end_of, ended_over, step_is, over, queued_over, shown, stored_is, shown_over}
-use Rattle.tighten.specs.Carried.{Progress, progress_of, carried, Carries}
+use Rattle.tighten.specs.Over.{ended, end_of, ended_over, step_is, over, queued_over, or_changed, step_changed, shown, stored_is, shown_over}
+use Rattle.tighten.specs.Carried.{Progress, progress_of, begun, or_before, carried, Carries}
 
 or_of : (a b : Bool) → a ≡ false → (a || b) ≡ b
 or_of a b e = ap (λ (y : Bool). y || b) e
+
+some_rewrite : (n k : ℕ) → n ≡ k → (n ≡ 0 → ⊥) → eqb k 0 ≡ false
+some_rewrite n zero e h = absurd (h e)
+some_rewrite n (suc k) e h = eqb-suc-zero k
 
 -- the code's answer of a term: nothing, or a rewrite
 rewrites_some : (a : Float) (b : Option Rebound) → eqb (defs.rewrites (bound_is a b)) 0 ≡ false
@@ -57,6 +62,20 @@ module _ {ds : List ℕ} {s : Shape} {f : Floats} {F : Model → Work → defs.R
 -- the step in the state as the slices show it
 abbrev pub step_at : defs.Form → Float → ℕ → ℕ → Progress → Model → Work → Rewriting
 step_at form nz r i x M w = rewrite_step M form nz r i (carried r x w)
+
+-- something changed before
+step_before : (form : defs.Form) (nz : Float) (r i : ℕ) (b : Bool) (act : Activity) (M : Model) (w : Work)
+    → step_at form nz r i (begun act b) M w ≡ or_changed b (step_at form nz r i (begun act false) M w)
+step_before form nz r i true act M w = step_changed M form nz r i true (carried r (begun act false) w)
+step_before form nz r i false act M w = refl
+
+pub carries_before : {P : Model → Type 0} {s : Shape} {r : ℕ} {f f' : Floats} {n n' : Numbers} {z : Progress} (form : defs.Form) (nz : Float) (i : ℕ) (act : Activity) (b : Bool)
+    → Carries P s r f n f' n' z (step_at form nz r i (begun act false)) → Carries P s r f n f' n' (or_before b z) (step_at form nz r i (begun act b))
+carries_before {r = r} {f' = f'} {n' = n'} form nz i act b t =
+    record {
+      does = λ M o k w p c h j. subst (λ (y : Rewriting). Shows M f' n' o (shown r y)) (sym (step_before form nz r i b act M w)) (t.does M o k w p c h j);
+      says = λ M o k w p c h j. ap progress_of (step_before form nz r i b act M w) ∙ ap (or_before b) (t.says M o k w p c h j);
+    }
 
 -- v and b are the term's as the slices have it, lim the row's four floats, z its rewrite
 module _ {lists : Lists} {s : Shape} (r i : ℕ) {f : Floats} {n : Numbers} (p : r < s.rows)

@@ -13,8 +13,8 @@ mod rows;
 use definition::Activity;
 pub use rows::tighten_binary_coeffs;
 
-// How far the rewriting of a row has come; the row and the state are what the working slices hold.
-// The row's activity is kept up to date.
+// What one term of a row leaves beside the working slices, which hold the row and the state: the row's activity, kept up to date, and
+// whether the term was rewritten. No Option of an activity: there is one either way.
 #[derive(Clone, Copy)]
 pub struct Progress {
     pub act: Activity,

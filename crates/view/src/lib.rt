@@ -6,7 +6,8 @@
 use definition::Rows;
 
 // What the steps read of the call: the rows as written, the domain of each variable, and the rows of
-// each variable as `begin` lists them.
+// each variable as `begin` lists them. That they are a model's (`Known` and its parts) is not an invariant of them:
+// it is asked together with the working slices' state, as `Ready`.
 #[derive(Clone, Copy)]
 pub struct Lists<'a> {
     pub rows: Rows<'a>,

@@ -1,5 +1,5 @@
 -- The laws of `first`: what makes a place the first, and what its answer says.
-use Rattle.std.specs.Prelude.{ℕ, zero, suc, ◌+◌, ◌≤◌, ◌<◌, ◌≡◌, refl, Bool, true, false}
+use Rattle.std.specs.Prelude.{ℕ, zero, suc, ◌+◌, ◌-◌, ◌≤◌, ◌<◌, ◌≡◌, refl, Bool, true, false}
 use Rattle.std.proofs.Common.{arith, sym, ap, subst, ◌∙◌}
 use Rattle.std.proofs.Math.Decide.{ℕ_discrete}
 use Rattle.std.proofs.lemmas.Bool.{false≢true}
@@ -21,6 +21,13 @@ first_is p (suc n) j i a b e h = go (p j) refl (first_is p n (suc j) i)
           | yes s ↦ absurd (false≢true (sym (ap p (sym s) ∙ q) ∙ e))
           | no s ↦ later (omega (arith, s)) (omega arith) e (λ k u v. h k (omega (arith, u)) v) ∙ sym (left j (first p n (suc j)) q)
         ]
+
+step : (p : ℕ → Bool) (n i m : ℕ) → n - i ≡ suc m → first p (n - i) i ≡ choose (p i) i (first p m (suc i))
+unfolding first
+step p n i m e = ap (λ (k : ℕ). first p k i) e
+
+less : (n i : ℕ) → i < n → n - i ≡ suc (n - (i + 1))
+less n i h = omega arith
 
 -- ---- what the answer says: no place passes exactly where the first one is past the end
 pub none_pass : (p : ℕ → Bool) (n j : ℕ) → j + n ≤ first p n j → (i : ℕ) → j ≤ i → i < j + n → p i ≡ false

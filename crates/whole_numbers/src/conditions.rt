@@ -1,6 +1,7 @@
 // 01's conditions of a farm model: each as the test that fails it at a place. What lies outside a slice
 // reads as the definition's lists do, so nothing is asked of the caller. `is_some_and` and `is_none_or` were
-// tried in place of a match: the proofs did not close by the check alone.
+// tried in place of a match: the proofs did not close, since what a closure without a clause says cannot be cited
+// there, and with one it is longer than the match.
 ghost use Rattle.std.specs.Prelude.{◌≡◌, ◌&&◌};
 ghost use Rattle.std.specs.Float.Ieee.{le};
 ghost use Rattle.floats.specs.Num.{abs};
@@ -29,6 +30,7 @@ fn is_tolerable(x: f64) -> bool
     0.0 <= x && x <= 0.01
 }
 
+// Bytes, here and for the mode, as `Input` has them.
 pub(crate) fn domain_off(domain: &[u8], v: usize) -> bool
     ensures { result ≡ domain_off domain.now v }
 {
@@ -48,6 +50,7 @@ pub(crate) fn number_off(xs: &[f64], limit: f64, i: usize) -> bool
     }
 }
 
+// Two lists and no `Input`: it asks of these two alone.
 pub(crate) fn bounds_off(lower: &[f64], upper: &[f64], v: usize) -> bool
     ensures { result ≡ bounds_off lower.now upper.now v }
 {

@@ -7,9 +7,9 @@ use Rattle.begin.proofs.reading.read_row.Goals as goal
 
 pub verdict-requires : goal.verdict-requires
 verdict-requires c = (
-  omega (arith, c.requires.r_lt_rows.0, starts_long c.requires.given c.requires.r_lt_rows.0),
-  omega (arith, c.requires.r_lt_rows.0, cmp_long c.requires.given c.requires.r_lt_rows.0),
-  omega (arith, c.requires.r_lt_rows.0, rhs_long c.requires.given c.requires.r_lt_rows.0),
+  omega (arith, c.requires.r_lt_rows.0, starts_long c.requires.given.call c.requires.given.known.starts),
+  omega (arith, c.requires.r_lt_rows.0, cmp_long c.requires.given.call c.requires.given.known.cmp),
+  omega (arith, c.requires.r_lt_rows.0, rhs_long c.requires.given.call c.requires.given.known.rhs),
   span_rises c.requires.given c.requires.r_lt_rows.0,
 )
 

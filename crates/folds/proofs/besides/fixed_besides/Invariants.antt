@@ -1,7 +1,8 @@
 -- `fixed_besides` is fixed_besides, of the row's own binding.
+use Rattle.std.proofs.Common.{◌-◌, ◌≤◌}
 use Rattle.space.specs.Store.{floats_of, numbers_of}
 use Rattle.folds.specs.Besides.{listed, Summed}
 use Rattle.folds.proofs.besides.fixed_besides.Given as goal
 
-abbrev pub invariant-loop-j : goal.invariant-loop-j
-invariant-loop-j l = Summed l.starts l.s l.r (listed l.a l.k (numbers_of l.s l.m).binary) (floats_of l.s l.w) (numbers_of l.s l.m) l.j l.sum
+abbrev pub invariant-loop-i : goal.invariant-loop-i
+invariant-loop-i l = (l.e - l.n ≤ l.i) × Summed l.starts l.s l.r (listed l.a l.k (numbers_of l.s l.m).binary) (floats_of l.s l.w) (numbers_of l.s l.m) (l.e - l.i) l.sum

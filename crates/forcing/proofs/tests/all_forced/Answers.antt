@@ -1,46 +1,37 @@
 -- `all_forced` is all_forced.
-use borrow.Author.Rules.{rules}
-use native.Mathlib.Omega.{arith}
-use Rattle.readers.specs.Reading.{domain_in}
+use Rattle.std.specs.Prelude.{get_or, Bool, true, false}
+use Rattle.std.proofs.Common.{rules, ◌<◌, ℕ, refl, arith}
+use Rattle.std.proofs.lemmas.Iterator.{serves_from_Range, YieldsList-from_range, cases_from_all}
 use Rattle.readers.specs.RowAt.{live_place, live_var}
+use Rattle.readers.specs.Reading.{domain_in}
 use Rattle.rows.specs.Knowing.{looks_spans, looks_domains}
-use Rattle.forcing.specs.Forced.{live_small, testing_turn, testing_fails, testing_end}
+use Rattle.space.specs.Store.{floats_of, numbers_of}
+use Rattle.forcing.specs.Forced.{live_small, Told, told_of, all_forced_is}
 use Rattle.forcing.proofs.tests.all_forced.Goals as goal
 
-pub overflow_add-a : goal.overflow_add-a
-overflow_add-a c = omega (arith, live_small c.requires.ready looks_spans c.requires.r_lt_rows.0 c.requires.r_lt_rows.3 c.get-i-end.ensures c.loop-i-test.true)
+pub all-requires-clause-callable : goal.all-requires-clause-callable
+all-requires-clause-callable c =
+    serves_from_Range (λ x q k. search rules)
+    (λ i _ m.
+    let at = c.requires.r_lt_rows in
+    let ready = c.requires.ready in
+    let small = live_small ready looks_spans at.0 at.3 c.get.ensures m in
+    let len : i < get_or (numbers_of c.args.s c.args.m.now).len c.args.r 0 = omega (arith, m, c.get.ensures) in
+    let place = live_place ready looks_spans at.0 at.3 len in (
+      search (arith, small),
+      search place,
+      search (arith, small),
+      search place,
+      λ _ _ _ _ _ _ _ _ _ _ _ _ _ _ _ v _ _ _. (
+        (live_var ready looks_spans at.0 at.3 len v.ensures, at.1, domain_in ready looks_domains (live_var ready looks_spans at.0 at.3 len v.ensures)),
+        c.requires.limits,
+      ),
+    ))
 
-pub get-v-requires : goal.get-v-requires
-get-v-requires c = (live_place c.requires.ready looks_spans c.requires.r_lt_rows.0 c.requires.r_lt_rows.3 (omega arith), search rules)
-
-pub overflow_add-a-in-loop-i : goal.overflow_add-a-in-loop-i
-overflow_add-a-in-loop-i c = omega (
-  arith,
-  live_small c.requires.ready looks_spans c.requires.r_lt_rows.0 c.requires.r_lt_rows.3 c.get-i-end.ensures c.loop-i-test.true,
-)
-
-pub get-c-requires : goal.get-c-requires
-get-c-requires c = (live_place c.requires.ready looks_spans c.requires.r_lt_rows.0 c.requires.r_lt_rows.3 (omega arith), search rules)
-
-pub forced_term-requires : goal.forced_term-requires
-forced_term-requires c = record {
-  v_lt_vars = (
-    live_var c.requires.ready looks_spans c.requires.r_lt_rows.0 c.requires.r_lt_rows.3 (omega arith) c.get-v.ensures,
-    search rules,
-    domain_in c.requires.ready looks_domains (live_var c.requires.ready looks_spans c.requires.r_lt_rows.0 c.requires.r_lt_rows.3 (omega arith)
-        c.get-v.ensures),
-  );
-  limits = c.requires.limits;
-}
-
-pub loop-i-preserved : goal.loop-i-preserved
-loop-i-preserved c = search testing_turn
-
-pub returns-then-not-forced_term : goal.returns-then-not-forced_term
-returns-then-not-forced_term c = testing_fails c.requires.r_lt_rows.0 c.requires.r_lt_rows.3 c.loop-i.invariant
-    c.get-i-end.ensures c.loop-i-test.true
-    c.get-v.ensures c.get-c.ensures c.forced_term.ensures c.if-not-forced_term.true
-
+-- `c` is hidden from two searches, which then reach all that a turn's calls say
 pub returns : goal.returns
-returns c = testing_end c.requires.r_lt_rows.0 c.requires.r_lt_rows.3 c.loop-i.invariant
-    c.get-i-end.ensures c.loop-i-test.false
+returns c =
+    let is : Bool → ℕ → Type 0 = Told c.args.lists c.args.s (floats_of c.args.s c.args.w.now) (numbers_of c.args.s c.args.m.now) c.args.r c.args.sliver.gap c.args.sliver.mag in
+    all_forced_is c.requires.r_lt_rows.0 c.requires.r_lt_rows.3 c.get.ensures _ _ _
+    (cases_from_all c.all.new.self _ _ (is true) (is false) c.all.ensures.ran (YieldsList-from_range 0 c.get.result c.get.result refl (omega arith))
+    (λ x q k. (search rules, let c : ℕ = 0 in search told_of)) (λ x q k. let c : ℕ = 0 in search told_of))

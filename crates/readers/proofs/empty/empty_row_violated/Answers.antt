@@ -13,31 +13,14 @@ verdict-requires c = (
 )
 
 pub bounds-rows-r : goal.bounds-rows-r
-bounds-rows-r c = omega (arith, (span_ready c.requires.ready_f c.requires.r_lt_rows.0).starts)
-
-pub bounds-rows-r-2 : goal.bounds-rows-r-2
-bounds-rows-r-2 c = omega (arith, (span_ready c.requires.ready_f c.requires.r_lt_rows.0).starts)
-
-pub bounds-rows-r-3 : goal.bounds-rows-r-3
-bounds-rows-r-3 c = (span_ready c.requires.ready_f c.requires.r_lt_rows.0).rhss
-
-pub bounds-rows-r-4 : goal.bounds-rows-r-4
-bounds-rows-r-4 c = (span_ready c.requires.ready_f c.requires.r_lt_rows.0).cmps
+bounds-rows-r c = (span_ready c.requires.ready_f c.requires.r_lt_rows.0).cmps
 
 pub returns-then-unwrap_or : goal.returns-then-unwrap_or
 returns-then-unwrap_or c = empty_true c.requires.r_lt_rows.0 c.verdict.result
     c.verdict.ensures c.unwrap_or.ensures c.if-unwrap_or.true
 
 pub fixed_sum-requires : goal.fixed_sum-requires
-fixed_sum-requires c = record {
-  a_le_e = (
-    (span_ready c.requires.ready_f c.requires.r_lt_rows.0).rise,
-    (span_ready c.requires.ready_f c.requires.r_lt_rows.0).indices,
-    omega (arith, (span_ready c.requires.ready_f c.requires.r_lt_rows.0).indices, (span_ready c.requires.ready_f c.requires.r_lt_rows.0).coeffs),
-    search rules,
-  );
-  below = (span_ready c.requires.ready_f c.requires.r_lt_rows.0).below;
-}
+fixed_sum-requires c = record { span = (span_ready c.requires.ready_f c.requires.r_lt_rows.0, c.requires.r_lt_rows.1) }
 
 pub returns : goal.returns
 returns c = empty_judged c.requires.r_lt_rows.0 c.verdict.result

@@ -1,7 +1,9 @@
 -- `fixed_sum`: what is left of the definition from the term looked at on gives the whole.
+use Rattle.std.specs.Prelude.{◌+◌, length, get_or}
+use Rattle.std.specs.Float.{nan}
 use Rattle.space.specs.Store.{floats_of}
 use Rattle.readers.specs.Empty.{Summing}
 use Rattle.readers.proofs.empty.fixed_sum.Given as goal
 
-abbrev pub invariant-loop-i : goal.invariant-loop-i
-invariant-loop-i l = Summing l.index l.coeff l.s (floats_of l.s l.w) l.a l.e l.b l.i l.sum
+abbrev pub invariant-loop-v : goal.invariant-loop-v
+invariant-loop-v l = Summing l.rows.index.now l.rows.coeff.now l.s (floats_of l.s l.w) l.a l.e (get_or l.rows.rhs.now l.r nan) (l.a + length l.yielded) l.sum

@@ -1,10 +1,11 @@
 -- `rewrite_loop`: what is left of the definition from term i on gives the whole.
+use Rattle.std.specs.Prelude.{false}
 use Rattle.formulas.specs.Rewriting.{maybe_form}
 use Rattle.space.specs.Store.{floats_of, numbers_of}
 use Rattle.tighten.specs.Tightening.{Tightening}
-use Rattle.tighten.specs.Carried.{going}
+use Rattle.tighten.specs.Carried.{begun}
 use Rattle.tighten.specs.Loop.{AtTerm}
 use Rattle.tighten.proofs.rewriting.rewrite_loop.Given as goal
 
 abbrev pub invariant-loop-i : goal.invariant-loop-i
-invariant-loop-i l = AtTerm (Tightening l.lists) l.s (maybe_form l.x.form) l.x.room l.r l.len l.i (going l.initial.so_far) (going l.so_far) (floats_of l.s l.initial.w) (numbers_of l.s l.initial.m) (floats_of l.s l.w) (numbers_of l.s l.m)
+invariant-loop-i l = AtTerm (Tightening l.lists) l.s (maybe_form l.x.form) l.x.room l.r l.len l.i (begun l.x.act false) (begun l.act l.changed) (floats_of l.s l.initial.w) (numbers_of l.s l.initial.m) (floats_of l.s l.w) (numbers_of l.s l.m)

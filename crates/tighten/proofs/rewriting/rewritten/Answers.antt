@@ -13,10 +13,10 @@ pub hold_rewrites-requires : goal.hold_rewrites-requires
 hold_rewrites-requires c = search (queued_standing, rules)
 
 pub returns-then-hold_rewrites : goal.returns-then-hold_rewrites
-returns-then-hold_rewrites c = λ old. rewritten_back _ c.requires.r_lt_rows.0 c.requires.r_lt_rows.3 c.requeue.ensures c.hold_rewrites.ensures
+returns-then-hold_rewrites c = λ old. rewritten_back _ c.requires.r_lt_rows.0 c.requires.r_lt_rows.3 c.requeue.ensures.acts_n c.hold_rewrites.ensures
     old c.args.act c.if-hold_rewrites.true
 
 pub returns : goal.returns
-returns c = λ old. rewritten_on _ c.requires.r_lt_rows.0 c.requires.r_lt_rows.3 c.requeue.ensures c.hold_rewrites.ensures old c.args.act
+returns c = λ old. rewritten_on _ c.requires.r_lt_rows.0 c.requires.r_lt_rows.3 c.requeue.ensures.acts_n c.hold_rewrites.ensures old c.args.act
     c.if-hold_rewrites.false (touched_length _ _ (omega arith)) c.put.ensures
     (rewrote_length _ _ (omega arith)) c.count.ensures

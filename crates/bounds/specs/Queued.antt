@@ -1,16 +1,17 @@
--- A rewrite queues its row without marking it for the coefficient step again; a rewrite more is counted; a row's mark for the coefficient step is cleared.
-use Rattle.std.specs.Prelude.{ℕ, ◌+◌, ◌%◌, ◌^◌, ◌<◌, ◌≡◌, Bool, true, false, List, [], ◌∷◌, ◌++◌, map, length, get_or, set, take}
-use Rattle.std.proofs.Common.{arith, add-one, ap, sym, ◌∙◌, length-set, length-append, take-suc-set, get_or-set_same}
-use Rattle.definition.specs.Model.{Model, rewrote}
-use Rattle.definition.specs.Work.{Work, with_marks, with_counts}
+-- A row is queued, with its mark for the coefficient step or without: the definition's `mark_row` is its `queued` once the mark is set.
+use Rattle.std.specs.Prelude.{ℕ, ◌+◌, ◌<◌, ◌≡◌, refl, Bool, true, false, List, [], ◌∷◌, ◌++◌, map, length, get_or, set, take}
+use Rattle.std.proofs.Common.{arith, add-one, ap, sym, ◌∙◌, subst, length-set, length-append, take-suc-set, get_or-set_same}
+use Rattle.definition.specs.Model.{Model}
+use Rattle.definition.specs.Work.{Work, with_marks}
+use Rattle.definition.specs.Marks.{mark_row}
 use Rattle.definition.specs.Tighten.{queued}
 use Rattle.space.specs.declared.Shape.{Shape}
-use Rattle.space.specs.Store.{Floats, Numbers, put_dirty, put_coeff_dirty, put_queue, put_queued, put_rewrote}
+use Rattle.space.specs.Store.{Floats, Numbers, put_dirty, put_coeff_dirty, put_queue, put_queued}
 use Rattle.view.specs.Call.{Call}
 use Rattle.view.specs.Shows.{is_one, Shows}
 use Rattle.view.specs.Inv.{Inv}
-use Rattle.view.specs.Acts.{ReadyN, ActsN, Any, Keeps}
-use Rattle.view.specs.Lists.{yes, no, either, one_is, one_not, zero_is, map_set, marked_le, clear_in, marked_set, below_add, count_mod}
+use Rattle.view.specs.Acts.{ReadyN, ActsN, Any, Keeps, then_numbers, ready_next}
+use Rattle.view.specs.Lists.{yes, no, either, one_is, one_not, map_set, marked_le, clear_in, marked_set, below_add}
 use Rattle.view.specs.Marks.{flag_of}
 
 -- ---- queued, by whether the row is queued
@@ -97,70 +98,30 @@ module _ {s : Shape} {n : Numbers} {r : ℕ} {d : ℕ} (p : r < s.rows) (e₁ : 
                 });
           }
 
--- ---- a rewrite more
-abbrev pub count_rewrote : Work → Work
-count_rewrote w = with_counts (rewrote w.counts) w
+-- ---- a row's mark for the coefficient step
+abbrev pub flagged : Bool → ℕ → Work → Work
+flagged b r w = with_marks w.dirty (set w.coeff_dirty r b) w.queue w
 
-pub inv_rewrote : {M : Model} {k : ℕ} (w : Work) → Inv M k w → Inv M k (count_rewrote w)
-inv_rewrote w i = record {
-  wlos = i.wlos;
-  whis = i.whis;
-  elos = i.elos;
-  ehis = i.ehis;
-  dirties = i.dirties;
-  coeff_dirties = i.coeff_dirties;
-  rowses = i.rowses;
-  queue = i.queue;
-  room = i.room;
-  rows = i.rows;
-}
-
-pub rewrote_acts : {P : Model → Type 0} {s : Shape} {n n' : Numbers} → length n.rewrote ≡ 1 → n' ≡ put_rewrote 0 ((get_or n.rewrote 0 0 + 1) % 2 ^ 64) n → ActsN P s n n' (λ M. count_rewrote)
-rewrote_acts {n = n} l e =
-    record {
-      does = λ M f o k w p c h i.
-          let z = get_or-set_same n.rewrote 0 ((get_or n.rewrote 0 0 + 1) % 2 ^ 64) 0 (omega (arith, l)) ∙ count_mod w.counts.coeffsTightened (get_or n.rewrote 0 0) h.counts.rewrote in
-          rw e
-          (record {
-            wlo = h.wlo;
-            whi = h.whi;
-            elo = h.elo;
-            ehi = h.ehi;
-            dirty = h.dirty;
-            coeff_dirty = h.coeff_dirty;
-            queued = h.queued;
-            queue = h.queue;
-            counts = record { dropped = h.counts.dropped; tightened = h.counts.tightened; fixed = h.counts.fixed; rewrote = z; passes = h.counts.passes };
-            wave = h.wave;
-            alive = h.alive;
-            rows = h.rows;
-          });
-    }
-
--- ---- the coefficient step has looked at row r
-abbrev pub looked : ℕ → Work → Work
-looked r w = with_marks w.dirty (set w.coeff_dirty r false) w.queue w
-
-pub inv_looked : {M : Model} {k : ℕ} (r : ℕ) (w : Work) → Inv M k w → Inv M k (looked r w)
-inv_looked r w i =
+pub inv_flagged : {M : Model} {k : ℕ} (b : Bool) (r : ℕ) (w : Work) → Inv M k w → Inv M k (flagged b r w)
+inv_flagged b r w i =
     record {
       wlos = i.wlos;
       whis = i.whis;
       elos = i.elos;
       ehis = i.ehis;
       dirties = i.dirties;
-      coeff_dirties = length-set w.coeff_dirty r false ∙ i.coeff_dirties;
+      coeff_dirties = length-set w.coeff_dirty r b ∙ i.coeff_dirties;
       rowses = i.rowses;
       queue = i.queue;
       room = i.room;
       rows = i.rows;
     }
 
-pub looked_keeps : {P : Model → Type 0} {s : Shape} (r : ℕ) → Keeps P s (λ M. looked r)
-looked_keeps r = record { keeps = λ M k w p c i. inv_looked r w i }
+pub flagged_keeps : {P : Model → Type 0} {s : Shape} (b : Bool) (r : ℕ) → Keeps P s (λ M. flagged b r)
+flagged_keeps b r = record { keeps = λ M k w p c i. inv_flagged b r w i }
 
-pub looked_acts : {P : Model → Type 0} {s : Shape} {n n' : Numbers} (r : ℕ) → n' ≡ put_coeff_dirty r 0 n → ActsN P s n n' (λ M. looked r)
-looked_acts {n = n} r e =
+pub flagged_acts : {P : Model → Type 0} {s : Shape} {n n' : Numbers} {b : Bool} (r v : ℕ) → is_one v ≡ b → n' ≡ put_coeff_dirty r v n → ActsN P s n n' (λ M. flagged b r)
+flagged_acts {n = n} {b = b} r v t e =
     record {
       does = λ M f o k w p c h i.
           rw e
@@ -170,7 +131,7 @@ looked_acts {n = n} r e =
             elo = h.elo;
             ehi = h.ehi;
             dirty = h.dirty;
-            coeff_dirty = map_set is_one n.coeff_dirty r 0 ∙ rw zero_is (ap (λ (l : List Bool). set l r false) h.coeff_dirty);
+            coeff_dirty = map_set is_one n.coeff_dirty r v ∙ rw t (ap (λ (l : List Bool). set l r b) h.coeff_dirty);
             queued = h.queued;
             queue = h.queue;
             counts = h.counts;
@@ -179,3 +140,17 @@ looked_acts {n = n} r e =
             rows = h.rows;
           });
     }
+
+-- ---- mark_row
+mark_is : (r : ℕ) (w : Work) → queued r (flagged true r w) ≡ mark_row r w
+unfolding queued mark_row
+mark_is r w = refl
+
+module _ {P : Model → Type 0} {s : Shape} (r : ℕ) {n n₁ : Numbers} (e : n₁ ≡ put_coeff_dirty r 1 n) where
+  pub mark_ready : ReadyN P s n → ReadyN P s n₁
+  mark_ready R = ready_next R (flagged_acts r 1 one_is e) (flagged_keeps true r)
+
+  pub mark_acts : {n' : Numbers} → ActsN P s n₁ n' (λ M. queued r) → ActsN P s n n' (λ M. mark_row r)
+  mark_acts {n'} q =
+      let b = then_numbers (flagged_acts r 1 one_is e) (flagged_keeps true r) q in
+      record { does = λ M f o k w p c h i. subst (λ (y : Work). Shows M f n' o y) (mark_is r w) (b.does M f o k w p c h i) }

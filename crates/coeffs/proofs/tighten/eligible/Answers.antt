@@ -2,8 +2,8 @@
 use native.Mathlib.Omega.{arith}
 use Rattle.readers.specs.RowAt.{row_ready}
 use Rattle.coeffs.specs.Along.{along_place, along_small, along_var}
-use Rattle.coeffs.specs.Eligible.{binaries_spans, domain_in, term_rewrite, count_turn, count_end}
-use Rattle.coeffs.proofs.tighten.OneSided.eligible.Goals as goal
+use Rattle.coeffs.specs.Eligible.{binaries_spans, domain_in, count_turn, count_end}
+use Rattle.coeffs.proofs.tighten.eligible.Goals as goal
 
 pub bounds-starts-r : goal.bounds-starts-r
 bounds-starts-r c = omega (arith, (row_ready c.requires.ready binaries_spans c.requires.r_lt_rows.0 c.requires.r_lt_rows.3).long)
@@ -27,8 +27,8 @@ overflow_add-a-in-loop-i c = omega (
 pub get-c-requires : goal.get-c-requires
 get-c-requires c = search (along_place, binaries_spans)
 
-pub is_binary-b-requires : goal.is_binary-b-requires
-is_binary-b-requires c = search (along_var, binaries_spans, domain_in)
+pub rewrite_term-z-requires : goal.rewrite_term-z-requires
+rewrite_term-z-requires c = search (along_var, binaries_spans, domain_in)
 
 pub overflow_add-n : goal.overflow_add-n
 overflow_add-n c = omega (
@@ -36,15 +36,15 @@ overflow_add-n c = omega (
   along_small {k = c.loop-i.i} c.requires.ready binaries_spans c.requires.r_lt_rows.0 c.requires.r_lt_rows.3 c.get-len.ensures
       (omega arith),
   c.loop-i.invariant.few,
-  (count_turn _ _ _ _ c.requires.r_lt_rows.0 c.requires.r_lt_rows.3 c.loop-i.invariant c.get-len.ensures c.args.self.limits c.requires.row_limits
+  (count_turn _ _ _ _ c.requires.r_lt_rows.0 c.requires.r_lt_rows.3 c.loop-i.invariant c.get-len.ensures c.args.x.limits c.requires.row_limits
       (omega arith) c.get-v.ensures c.get-c.ensures
-      (term_rewrite _ _ _ c.args.self.limits _ _ c.is_binary-b.ensures c.rewrite_of-z.ensures) c.rewrite_count-n.ensures).few,
+      c.rewrite_term-z.ensures c.rewrite_count-n.ensures).few,
 )
 
 pub loop-i-preserved : goal.loop-i-preserved
-loop-i-preserved c = count_turn _ _ _ _ c.requires.r_lt_rows.0 c.requires.r_lt_rows.3 c.loop-i.invariant c.get-len.ensures c.args.self.limits c.requires.row_limits
+loop-i-preserved c = count_turn _ _ _ _ c.requires.r_lt_rows.0 c.requires.r_lt_rows.3 c.loop-i.invariant c.get-len.ensures c.args.x.limits c.requires.row_limits
     (omega arith) c.get-v.ensures c.get-c.ensures
-    (term_rewrite _ _ _ c.args.self.limits _ _ c.is_binary-b.ensures c.rewrite_of-z.ensures) c.rewrite_count-n.ensures
+    c.rewrite_term-z.ensures c.rewrite_count-n.ensures
 
 pub returns : goal.returns
 returns c = search count_end

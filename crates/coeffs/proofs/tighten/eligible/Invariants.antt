@@ -2,7 +2,7 @@
 use Rattle.formulas.specs.Rewriting.{maybe_form}
 use Rattle.space.specs.Store.{floats_of, numbers_of}
 use Rattle.coeffs.specs.Eligible.{Counting}
-use Rattle.coeffs.proofs.tighten.OneSided.eligible.Given as goal
+use Rattle.coeffs.proofs.tighten.eligible.Given as goal
 
 abbrev pub invariant-loop-i : goal.invariant-loop-i
-invariant-loop-i l = Counting l.domain l.starts l.s (floats_of l.s l.w) (numbers_of l.s l.m) (maybe_form l.self.form) l.self.room l.self.act l.r l.i l.n
+invariant-loop-i l = Counting l.domain l.starts l.s (floats_of l.s l.w) (numbers_of l.s l.m) (maybe_form l.x.form) l.x.room l.x.act l.r l.i l.n

@@ -1,6 +1,0 @@
--- `rewrite_term`: the rewrite is a function of numbers.
-use Rattle.coeffs.specs.Eligible.{term_rewrite}
-use Rattle.coeffs.proofs.tighten.OneSided.rewrite_term.Goals as goal
-
-pub returns : goal.returns
-returns c = term_rewrite _ _ _ c.args.self.limits _ _ c.is_binary-b.ensures c.rewrite_of.ensures

@@ -1,0 +1,2 @@
+-- What clearing a slice leaves.
+pub mod Fill
