@@ -62,6 +62,8 @@ impl From<Refusal> for u8 {
 
 // = refusal: the rows in their order, each looked at only where none before it applies. Ten blocks that are
 // alike, as the table's rows are: a row relies on those before it, which `?` over a helper would hide.
+// Compiled into its caller, since what a call hands in goes by value.
+#[inline(always)]
 pub fn refused(input: Input, lent: Lent) -> Result<(), Refusal>
     ensures { refused_is result ≡ refusal (input_model input.entry) (lent_of lent) }
 {

@@ -1,6 +1,7 @@
 // The rows of the table of refusals, one function each. A row may rely on what the rows before it
 // rule out, and its `requires` says on which. Tests are joined by `|`, since no side can fail: each row is then its definition by computing. With `||`
 // each test was a branch of the proof, and more to read than this.
+// Three rows are marked to be compiled into `refused`: else they are handed the whole input through memory.
 ghost use Rattle.std.specs.Prelude.{◌≡◌, false, ◌+◌, ◌≤◌, length};
 ghost use Rattle.definition.specs.Refusal as definition;
 ghost use Rattle.definition.specs.Refusal.{some_below, row_unordered};
@@ -87,6 +88,7 @@ pub(crate) fn bounds_wrong(input: Input) -> bool
 }
 
 // = numbers_wrong
+#[inline(always)]
 pub(crate) fn numbers_wrong(input: Input) -> bool
     requires { length input.rows.coeff.now ≡ length input.rows.index.now }
     ensures { result ≡ definition.numbers_wrong (input_model input.entry) }
@@ -95,6 +97,7 @@ pub(crate) fn numbers_wrong(input: Input) -> bool
 }
 
 // = rhses_wrong
+#[inline(always)]
 pub(crate) fn rhses_wrong(input: Input) -> bool
     requires { length input.rows.cmp.now ≡ length input.rows.rhs.now }
     ensures { result ≡ definition.rhses_wrong (input_model input.entry) }
@@ -111,6 +114,7 @@ pub(crate) fn tolerances_wrong(input: Input) -> bool
 }
 
 // = too_short. No sum overflows at the maxima.
+#[inline(always)]
 pub(crate) fn too_short(input: Input, lent: Lent) -> bool
     requires { (length input.obj.now ≤ 4096) × (length input.rows.rhs.now ≤ 8192) × (length input.rows.index.now ≤ 65536) }
     ensures { result ≡ definition.too_short (input_model input.entry) (lent_of lent) }
