@@ -1,6 +1,6 @@
 -- `best_kept` IS NOT EMPTY: of definition's `rise_then_fall`, least -x + y over x, y from 0 to 5 with x + y ≥ 3, dual fixing leaves one point, in two rounds.
 -- x = 0, y = 3 is one of those that vanish; the least objective, -5, is kept.
-use Rattle.std.specs.Prelude.{◌-◌, ◌≤◌, ◌≡◌, refl, ◌⊎◌, pos, negsuc, get_or}
+use Rattle.std.specs.Prelude.{◌≤◌, ◌≡◌, refl, ◌⊎◌, pos, negsuc, get_or}
 use Rattle.std.proofs.Common.{arith, subst, inl, inr}
 use mathlib.Core.List.Memᴰ
 use Rattle.std.specs.Float.Ieee.{neg, le, lt, eq, fits, of_bits, of_int, round}

@@ -1,7 +1,7 @@
 -- DOMINANCE: where points are lost on purpose, each point of the model has one among those that stay that is as good: one that dominates it. With dual fixing off
 -- this is the point itself; with it on it is any point, which says that there is one, or one of no greater objective. Here is what is kept on the way: the
 -- invariant for the state's own points.
-use Rattle.std.specs.Prelude.{ℕ, ℤ, length}
+use Rattle.std.specs.Prelude.{ℕ, ℤ}
 use Rattle.definition.specs.Model.{Model}
 use Rattle.definition.specs.Work.{Work}
 use Rattle.best_kept.specs.PointSet.{PointSet}

@@ -9,7 +9,7 @@ use Rattle.std.proofs.Math.Option.{Option}
 use Rattle.std.proofs.Math.IntN.{+ℤ_assoc, +ℤ_idr, +ℤ_idl, zero-*ℤ}
 use Rattle.std.proofs.Math.ListN.{length, get_or, length-set}
 use Rattle.std.proofs.Math.Seq.{get_or-set_same, get_or-set_other, get_or-take, length-take-le}
-use Rattle.std.specs.Float.Ieee.{lt, eq}
+use Rattle.std.specs.Float.Ieee.{eq}
 use Rattle.floats.specs.Num.{choose, ◌⊖◌, 0f, is_finite}
 use Rattle.floats.specs.Zed.{P, N, A, ext, add_parts, sub_parts}
 use Rattle.floats.specs.Points.{int, Whole, Is}

@@ -9,7 +9,7 @@ use Rattle.floats.specs.Num.{gt}
 use Rattle.tolerances.specs.Tol.{Term, at}
 use Rattle.definition.specs.declared.Activity.{Activity}
 use Rattle.definition.specs.Model.{Model, Row}
-use Rattle.definition.specs.Work.{Work, Step, next, ◌>>=◌, drop_row}
+use Rattle.definition.specs.Work.{Work, Step, ◌>>=◌, drop_row}
 use Rattle.definition.specs.Marks.{mark_var}
 use Rattle.definition.specs.Bounds.{mark_tightened, upper_int, upper_real, lower_int, lower_real, fix, emit_bounds, tighten_upper, tighten_lower}
 use Rattle.definition.specs.Singles.{singleton_int, empty_row_check, singleton_bounds, singleton_drop, singleton_row}

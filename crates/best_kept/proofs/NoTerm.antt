@@ -14,9 +14,9 @@ use Rattle.floats.specs.Zed.{P, N, A, ext, add_parts, sub_parts}
 use Rattle.floats.specs.Points.{int, Whole, Is}
 use Rattle.floats.specs.WholeRounding.{Tol}
 use Rattle.cdouble.specs.Double.{from, value}
-use Rattle.tolerances.specs.Tol.{Term, outside, row_tolerance, trivial_verdict, says_true, violated, at, implied_from, implied_slack}
+use Rattle.tolerances.specs.Tol.{Term, row_tolerance, trivial_verdict, says_true, violated, at, implied_from, implied_slack}
 use Rattle.tolerances.specs.Budget.{row_tol}
-use Rattle.definition.specs.Model.{Model, op_of, written, Row}
+use Rattle.definition.specs.Model.{Model, op_of, Row}
 use Rattle.definition.specs.Work.{Work, Step, fixed, drop_row}
 use Rattle.definition.specs.Singles.{empty_row_check, fixed_value}
 use Rattle.best_kept.specs.PointSet.{PointSet}

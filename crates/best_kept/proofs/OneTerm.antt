@@ -6,7 +6,7 @@ use Rattle.std.proofs.Math.Logic.{inl, inr}
 use Rattle.std.proofs.Math.Bool.{true, false}
 use Rattle.std.proofs.Math.Dec.{eqb, not_T}
 use Rattle.std.proofs.Math.IntN.{+ℤ_idr}
-use Rattle.std.specs.Float.Ieee.{Float, binary64, lt, le, of_int}
+use Rattle.std.specs.Float.Ieee.{Float, binary64, lt, of_int}
 use Rattle.floats.specs.Num.{choose, ◌⊖◌, ◌⊗◌, ◌⊘◌, 0f, is_finite, abs, maxf, minf}
 use Rattle.floats.specs.Zed.{P, N, A, ◌⊑◌, ◌⊏◌}
 use Rattle.floats.specs.Points.{int, Bounded, ◌≼◌, ◌⊀◌, Is}

@@ -9,7 +9,6 @@ use Rattle.std.proofs.Math.Option.{Option, none, some}
 use Rattle.std.proofs.Math.Dec.{T}
 use Rattle.std.proofs.Math.ListN.{get_or-append}
 use Rattle.std.proofs.lemmas.List.{get_or_at}
-use Rattle.std.specs.Float.Ieee.{lt}
 use Rattle.floats.specs.Num.{gt, is_finite}
 use Rattle.floats.specs.Zed.{A, ◌⊑◌}
 use Rattle.floats.specs.Points.{int, ◌⊀◌, Is}

@@ -12,7 +12,7 @@ use Rattle.std.proofs.Math.IntN.{pos}
 use Rattle.std.specs.Float.{nan, inf, fin}
 use Rattle.std.specs.Float.Ieee.{lt, le, eq, neg, add, sub, of_bits}
 use Rattle.floats.specs.Num.{choose, ◌⊕◌, ◌⊖◌, 0f, ∞f, -∞f, is_finite, is_infinite, abs}
-use Rattle.floats.specs.Zed.{A, ◌⊑◌}
+use Rattle.floats.specs.Zed.{◌⊑◌}
 use Rattle.floats.specs.Points.{int, is_whole, Whole, Bounded, Is}
 use Rattle.floats.specs.WholeRounding.{Tol}
 use Rattle.tolerances.specs.Tol.{outside, slack_min, slack_max, row_tolerance, trivial_verdict, says_true, zip_terms}

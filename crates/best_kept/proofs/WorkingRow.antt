@@ -16,10 +16,10 @@ use Rattle.best_kept.specs.PointSet.{PointSet}
 use Rattle.points_kept.specs.Statements.{PureInteger, dot, Within}
 use Rattle.points_kept.proofs.Integers.{eq_parts}
 use Rattle.definition.specs.Tests.{and, taking, all_true}
-use Rattle.points_kept.proofs.WholeFloats.{∞_not, -∞_not, zero_is, small, tol_nonneg, whole_nonneg, tolerance, sum, mag_sum, mag_abs}
+use Rattle.points_kept.proofs.WholeFloats.{∞_not, -∞_not, zero_is, tol_nonneg, whole_nonneg, tolerance, sum, mag_sum, mag_abs}
 use Rattle.points_kept.specs.WholeFloats.{Mag}
 use Rattle.best_kept.specs.Invariant.{Sided, RowSided}
-use Rattle.best_kept.proofs.Invariant.{asks, agree_within}
+use Rattle.best_kept.proofs.Invariant.{agree_within}
 use Rattle.best_kept.specs.Activity.{ActivityOf, L, H}
 use Rattle.best_kept.proofs.Activity.{corner_mag}
 use Rattle.best_kept.specs.WorkingRow.{AtWork}

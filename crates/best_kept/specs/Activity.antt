@@ -1,9 +1,8 @@
 -- `Work::activity` is exact: the sum at each corner is the least, or the greatest, that the row comes to over the box, its magnitudes sum exactly, and no term is infinite.
 use Prim.Native.Nat.{ℕ, ◌*◌, ◌^◌, ◌≤◌, ◌<◌}
-use Rattle.std.specs.Prelude.{◌≡◌, T, ℤ, pos, length, Float}
+use Rattle.std.specs.Prelude.{◌≡◌, ℤ, pos, length, Float}
 use mathlib.Core.List.{List}
-use Rattle.floats.specs.Num.{abs}
-use Rattle.floats.specs.Zed.{P, N, A}
+use Rattle.floats.specs.Zed.{A}
 use Rattle.floats.specs.Points.{int, Is}
 use Rattle.floats.specs.WholeRounding.{NonNeg}
 use Rattle.tolerances.specs.Tol.{Term, at}
@@ -11,7 +10,6 @@ use Rattle.definition.specs.declared.Activity.{Activity}
 use Rattle.definition.specs.Model.{Model}
 use Rattle.definition.specs.Work.{Work}
 use Rattle.points_kept.specs.Statements.{PureInteger}
-use Rattle.points_kept.proofs.WholeFloats.{sum}
 use Rattle.points_kept.specs.Terms.{low, high, low_mag, high_mag}
 use Rattle.best_kept.specs.Invariant.{IntervalAt}
 

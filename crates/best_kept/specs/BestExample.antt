@@ -1,7 +1,6 @@
 -- `best_kept` IS NOT EMPTY: of definition's `rise_then_fall`, least -x + y over x, y from 0 to 5 with x + y ≥ 3, dual fixing leaves one point, in two rounds.
 -- x = 0, y = 3 is one of those that vanish; the least objective, -5, is kept.
 use Rattle.std.specs.Prelude.{ℕ, ◌-◌, ◌*◌, ℤ, pos}
-use mathlib.Core.List.Memᴰ
 use Rattle.definition.specs.Model.{Model}
 use Rattle.definition.specs.DualCases.{rise_then_fall}
 

@@ -1,12 +1,11 @@
 -- CHANGES OF THE STATE that keep the invariant: one variable's bounds narrowed, rows marked, a row dropped that all within the bounds meet.
 use Prim.Native.Nat.{ℕ, ◌<◌}
 use Rattle.std.specs.Prelude.{◌≡◌, ◌≢◌, List, length, Float}
-use Rattle.floats.specs.Points.{int}
 use Rattle.tolerances.specs.Tol.{at}
 use Rattle.definition.specs.Model.{Model}
 use Rattle.definition.specs.Work.{Work}
 use Rattle.best_kept.specs.PointSet.{PointSet}
-use Rattle.best_kept.specs.Invariant.{Narrow, Narrower, Good, GoodW}
+use Rattle.best_kept.specs.Invariant.{Narrower, GoodW}
 
 -- ---- a list with one element changed, or none
 pub record Sets (v : ℕ) (old new : List Float) (x : Float) : Type 0 where

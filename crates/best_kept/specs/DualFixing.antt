@@ -8,14 +8,13 @@ use mathlib.Core.List.{List}
 use Rattle.std.proofs.Math.ListN.{length}
 use Rattle.std.specs.Float.Ieee.{le}
 use Rattle.floats.specs.Num.{gt, ge, 0f}
-use Rattle.floats.specs.Zed.{A, ◌⊑◌}
+use Rattle.floats.specs.Zed.{◌⊑◌}
 use Rattle.floats.specs.Points.{int, Bounded}
 use Rattle.tolerances.specs.Tol.{Term, at}
 use Rattle.definition.specs.Model.{Model, Row}
 use Rattle.definition.specs.Work.{Work, no_row}
 use Rattle.definition.specs.Dual.{bad_dec, bad_inc, none_bad}
 use Rattle.points_kept.specs.Statements.{PureInteger, Within}
-use Rattle.points_kept.specs.Terms.{All}
 use Rattle.best_kept.specs.Invariant.{GoodW}
 use Rattle.best_kept.specs.Dominance.{Dominance, At, Dominating}
 use Rattle.best_kept.specs.Moved.{moved}

@@ -1,8 +1,6 @@
 -- THE FOURTH COUNT, of rewritten coefficients, is the same after any number of waves, and after dual fixing: whatever these do, they rewrite none.
 use Prim.Native.Nat.{ℕ}
 use Rattle.std.specs.Prelude.{◌≡◌}
-use Rattle.std.specs.Float.Ieee.{lt}
-use Rattle.tolerances.specs.Tol.{at}
 use Rattle.definition.specs.declared.Counts.{Counts}
 use Rattle.definition.specs.Model.{Model}
 use Rattle.definition.specs.Work.{Work, Step, stop, next}

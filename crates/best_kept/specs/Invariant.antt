@@ -6,15 +6,14 @@ use Rattle.std.proofs.Math.Dec.{T}
 use Rattle.std.proofs.Math.ListN.{length}
 use Rattle.std.specs.Float.Ieee.{eq}
 use Rattle.floats.specs.Num.{is_finite, ∞f, -∞f}
-use Rattle.floats.specs.Zed.{P, N, A, ◌⊑◌, ext}
+use Rattle.floats.specs.Zed.{A, ◌⊑◌}
 use Rattle.floats.specs.Points.{int, Whole, Bounded, Is}
-use Rattle.tolerances.specs.Tol.{at, Term}
+use Rattle.tolerances.specs.Tol.{at}
 use Rattle.definition.specs.declared.Counts.{Counts}
 use Rattle.definition.specs.Model.{Model, written, op_of, rhs_of, Row}
 use Rattle.definition.specs.Work.{Work, Step, stop, next, no_row}
 use Rattle.best_kept.specs.PointSet.{PointSet}
-use Rattle.points_kept.specs.Statements.{dot, Within, Point}
-use Rattle.points_kept.proofs.WholeFloats.{finite}
+use Rattle.points_kept.specs.Statements.{dot, Within}
 use Rattle.points_kept.specs.Terms.{All, TermOk, Distinct}
 
 -- ---- bounds at work: whole, of a size, in order, the working ones the emitted ones as numbers

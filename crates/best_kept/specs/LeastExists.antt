@@ -2,10 +2,8 @@
 -- the model's variables alone. So all of them are tried, one after another, and the best point so far is kept.
 use Prim.Native.Nat.{ℕ, ◌<◌}
 use Rattle.std.specs.Prelude.{◌≡◌, ℤ}
-use Rattle.floats.specs.Zed.{P, ◌⊑◌}
-use Rattle.floats.specs.Points.{int}
+use Rattle.floats.specs.Zed.{◌⊑◌}
 use Rattle.best_kept.specs.PointSet.{PointSet}
-use Rattle.points_kept.specs.Statements.{Point}
 
 -- ---- x and y agree on the first n variables
 abbrev pub Same : ℕ → (ℕ → ℤ) → (ℕ → ℤ) → Type 0

@@ -1,8 +1,7 @@
 -- `singleton_row`: a row of one term. The bounds that it leaves its variable lose no point, and it is dropped only where they meet it.
 use Rattle.std.specs.Prelude.{ℕ, ◌^◌, ◌<◌, Bool, not, T, ℤ, length}
-use Rattle.std.specs.Float.Ieee.{Float, le}
+use Rattle.std.specs.Float.Ieee.{Float}
 use Rattle.floats.specs.Num.{◌⊘◌, is_finite}
-use Rattle.floats.specs.Zed.{P, A}
 use Rattle.floats.specs.Points.{int, Bounded, Is}
 use Rattle.tolerances.specs.Tol.{at}
 use Rattle.definition.specs.Model.{Model, op_of, Row}
@@ -10,8 +9,6 @@ use Rattle.definition.specs.Work.{Work}
 use Rattle.definition.specs.Singles.{new_lower, new_upper}
 use Rattle.best_kept.specs.PointSet.{PointSet}
 use Rattle.points_kept.specs.Statements.{dot}
-use Rattle.definition.specs.Tests.{or}
-use Rattle.points_kept.proofs.WholeFloats.{finite}
 use Rattle.best_kept.specs.Invariant.{Sided}
 use Rattle.best_kept.specs.WorkingRow.{AtWork}
 use Rattle.points_kept.specs.Quotients.{AtMost, AtLeast, Signed}

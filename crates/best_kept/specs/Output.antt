@@ -1,12 +1,10 @@
 -- `out_from` to `answer_of`: a row that goes out as written, and one that all within the bounds meet, together are the model's rows, so the answer has
 -- all of the points sought and none but the model's.
 use Prim.Native.Nat.{ℕ, ◌<◌}
-use Rattle.std.specs.Prelude.{◌≡◌, ◌⊎◌, T, ℤ, length}
-use mathlib.Core.List.Memᴰ
+use Rattle.std.specs.Prelude.{◌≡◌, ◌⊎◌, ℤ, length}
 use mathlib.Core.List.{List, Memᴰ}
-use Rattle.floats.specs.Points.{Whole, int}
-use Rattle.tolerances.specs.Tol.{at}
-use Rattle.definition.specs.Model.{Model, written, op_of, Row, Emit, Reduced, Answer, infeasible, done}
+use Rattle.floats.specs.Points.{int}
+use Rattle.definition.specs.Model.{Model, op_of, Emit, Reduced, Answer, infeasible, done}
 use Rattle.definition.specs.Work.{Work}
 use Rattle.definition.specs.Emit.{Out, Final, fails, final, written_entry}
 use Rattle.best_kept.specs.PointSet.{PointSet}

@@ -1,13 +1,11 @@
 -- `redundant`: a row whose corners over the emitted box reach its sides, with slack and margin, is met by all that lies within the bounds. The margin is any that is 0 or more.
-use Rattle.std.specs.Prelude.{ℕ, T, pos, Float}
-use Rattle.std.specs.Float.Ieee.{le}
-use Rattle.floats.specs.Zed.{P, ◌⊏◌}
+use Rattle.std.specs.Prelude.{ℕ, pos, Float}
+use Rattle.floats.specs.Zed.{◌⊏◌}
 use Rattle.floats.specs.Points.{int, Whole}
 use Rattle.definition.specs.declared.Activity.{Activity}
 use Rattle.definition.specs.Model.{Model, Row}
 use Rattle.definition.specs.Work.{Work}
 use Rattle.best_kept.specs.PointSet.{PointSet}
-use Rattle.definition.specs.Tests.{or}
 use Rattle.best_kept.specs.Activity.{ActivityOf, L, H}
 use Rattle.best_kept.specs.WorkingRow.{AtWork}
 

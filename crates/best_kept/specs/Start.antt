@@ -1,17 +1,13 @@
 -- `presolve` from its start: crossed bounds have no point, rounding moves no bound, rows that are read are in the invariant; so the answer is exact.
 use Prim.Native.Nat.{ℕ, ◌<◌}
 use Rattle.std.specs.Prelude.{◌≡◌, List, ℤ, length, get_or, Float}
-use Rattle.std.proofs.Math.Bool.{false}
-use Rattle.std.proofs.Math.Dec.{T}
-use Rattle.floats.specs.Num.{gt}
-use Rattle.floats.specs.Zed.{A, ◌⊑◌}
+use Rattle.floats.specs.Zed.{◌⊑◌}
 use Rattle.floats.specs.Points.{int, Whole, Is}
 use Rattle.tolerances.specs.Tol.{at}
 use Rattle.definition.specs.Model.{Model, Row}
 use Rattle.definition.specs.Work.{no_row}
 use Rattle.definition.specs.Begin.{Bounds, cross, bounds, Rows, false_row, rows_are}
 use Rattle.points_kept.specs.Statements.{PureInteger, Point}
-use Rattle.definition.specs.Tests.{or}
 use Rattle.best_kept.specs.Invariant.{RowAt, NoPoint}
 
 pub record Ranged (l h : Float) (z : ℤ) : Type 0 where

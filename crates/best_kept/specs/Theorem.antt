@@ -1,11 +1,9 @@
 -- PRESOLVE KEEPS EXACTLY THE POINTS of a model of whole numbers alone, with dual fixing off, where no coefficient is rewritten: `points_kept`. It is one case of
 -- a theorem up to dominance, `kept_up_to`; `BestKept` has two others, for dual fixing on or off.
 use Rattle.std.specs.Prelude.{ℕ, ◌<◌, ◌≡◌, ℤ, length}
-use Rattle.std.specs.Float.Ieee.{le}
 use Rattle.floats.specs.Points.{◌⊀◌}
 use Rattle.floats.specs.WholeRounding.{NonNeg}
 use Rattle.tolerances.specs.Tol.{at}
-use Rattle.definition.specs.Params.{params}
 use Rattle.definition.specs.Model.{Model}
 use Rattle.definition.specs.Work.{Work}
 use Rattle.definition.specs.Dual.{dual_fix}

@@ -9,7 +9,7 @@ use Rattle.std.proofs.lemmas.List.{length-replicate, get_or-replicate}
 use Rattle.std.specs.Float.Ieee.{eq, is_nan, of_bits, round, of_int, nan}
 use Rattle.floats.specs.Num.{choose, 0f, is_finite}
 use Rattle.definition.specs.Model.{Model}
-use Rattle.definition.specs.Cases.{bits, p, writing}
+use Rattle.definition.specs.Cases.{writing}
 use Rattle.definition.specs.Refusal.{Lent, MAX_VARS, floats_needed, numbers_needed, adjacency_needed, some_below, vars, rows, terms, lengths_disagree}
 use Rattle.definition.specs.Refusal.{too_large, starts_wrong, indices_wrong, domain_wrong, codes_wrong, bound_wrong, bounds_wrong, obj_wrong, numbers_wrong}
 use Rattle.definition.specs.Refusal.{rhses_wrong, tolerances_wrong, too_short, shortest, earliest, refusal, judging}

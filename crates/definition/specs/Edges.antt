@@ -2,7 +2,7 @@
 -- and that longer slices are accepted where shorter ones are.
 use Rattle.std.specs.Prelude.{ℕ, List, [], ◌∷◌, replicate, Float}
 use Rattle.std.proofs.Math.Option.{Option, none, some}
-use Rattle.std.specs.Float.Ieee.{eq, nan}
+use Rattle.std.specs.Float.Ieee.{nan}
 use Rattle.floats.specs.Num.{0f, ½f, ∞f, -∞f}
 use Rattle.definition.specs.Params.{params}
 use Rattle.definition.specs.Model.{Model}

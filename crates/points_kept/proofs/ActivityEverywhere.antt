@@ -5,7 +5,6 @@ use Rattle.std.specs.Prelude.{ℕ, ◌<◌, ◌≡◌, Bool, false, length, get_
 use Rattle.std.proofs.Common.{arith, sym, subst, ◌∙◌, length-set}
 use Rattle.std.proofs.Math.Decide.{dec_lt}
 use Rattle.std.proofs.Math.ListN.{get_or-eq_default}
-use Rattle.floats.specs.Points.{int}
 use Rattle.definition.specs.Model.{Model, Row, Reduced, done}
 use Rattle.definition.specs.Work.{Work, no_row, drop_row}
 use Rattle.definition.specs.Activities.{activity}

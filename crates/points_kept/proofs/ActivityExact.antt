@@ -12,7 +12,6 @@ use Rattle.floats.specs.Num.{choose, 0f}
 use Rattle.floats.specs.Zed.{P, N, A, ◌⊑◌}
 use Rattle.floats.specs.Points.{int}
 use Rattle.tolerances.specs.Tol.{Term}
-use Rattle.definition.specs.declared.Activity.{Activity}
 use Rattle.definition.specs.Model.{Model, Row}
 use Rattle.definition.specs.Work.{Work}
 use Rattle.definition.specs.Activities.{activity}

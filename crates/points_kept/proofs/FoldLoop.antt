@@ -6,11 +6,9 @@ use Rattle.std.proofs.Math.Path.{refl, sym, subst}
 use Rattle.std.proofs.Math.Bool.{not}
 use Rattle.std.proofs.Math.Option.{Option}
 use Rattle.std.proofs.Math.ListN.{length}
-use Rattle.std.specs.Float.Ieee.{lt}
 use Rattle.floats.specs.Num.{choose, is_finite}
-use Rattle.floats.specs.Zed.{N}
 use Rattle.definition.specs.Model.{Model, Row, Binding}
-use Rattle.definition.specs.Work.{Work, fixed}
+use Rattle.definition.specs.Work.{Work}
 use Rattle.definition.specs.Folds.{fold_step, fold_loop, bound?, gives_back, relax_with, relax_binding, given_back, hold_rewrites, fold_fixed}
 use Rattle.definition.specs.Choices.{both}
 use Rattle.points_kept.specs.Terms.{NonZero}

@@ -1,16 +1,16 @@
 -- `fold_fixed`: what is left of a row after its fixed variables and zero coefficients have left says what the row says, and has no zero coefficient.
-use Prim.Native.Nat.{ℕ, zero, suc, ◌+◌, ◌-◌, ◌*◌, ◌^◌, ◌≤◌, ◌<◌}
+use Prim.Native.Nat.{ℕ, suc, ◌+◌, ◌*◌, ◌^◌, ◌≤◌, ◌<◌}
 use native.Mathlib.Omega.{arith}
-use Rattle.std.specs.Prelude.{◌≡◌, ◌≢◌, T, ℤ, pos, ◌+ℤ◌, ◌-ℤ◌, ◌*ℤ◌, Float}
+use Rattle.std.specs.Prelude.{◌≡◌, ◌≢◌, T, ℤ, ◌+ℤ◌, ◌-ℤ◌, ◌*ℤ◌, Float}
 use Rattle.std.proofs.Math.Path.{refl, sym, ap, subst}
 use Rattle.std.proofs.Common.{◌∙◌}
 use Rattle.std.proofs.Math.Bool.{true, false}
 use Rattle.std.proofs.Math.ListN.{length, get_or}
 use Rattle.std.specs.Float.Ieee.{eq}
 use Rattle.floats.specs.Num.{◌⊖◌, 0f}
-use Rattle.floats.specs.Zed.{N, A, ext, add_parts, sub_parts}
+use Rattle.floats.specs.Zed.{A, ext, add_parts, sub_parts}
 use Rattle.floats.specs.Points.{int}
-use Rattle.tolerances.specs.Tol.{Term, at}
+use Rattle.tolerances.specs.Tol.{at}
 use Rattle.definition.specs.Model.{Model, rhs_of, written, Row}
 use Rattle.definition.specs.Work.{Work, no_term, fixed}
 use Rattle.definition.specs.Folds.{swap_remove, fold_term, fold_step}

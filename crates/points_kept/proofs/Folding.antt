@@ -1,5 +1,5 @@
 -- `fold_fixed`: what is left of a row after its fixed variables and zero coefficients have left says what the row says, and has no zero coefficient.
-use Prim.Native.Nat.{ℕ, zero, suc, ◌+◌, ◌-◌, ◌*◌, ◌^◌, ◌≤◌, ◌<◌}
+use Prim.Native.Nat.{ℕ, zero, suc, ◌+◌, ◌-◌, ◌^◌, ◌≤◌, ◌<◌}
 use native.Mathlib.Omega.{arith}
 use Rattle.std.specs.Prelude.{◌≡◌, ◌≢◌, Bool, List, [], ◌∷◌, ◌++◌, T, eqb, ℤ, pos, ◌+ℤ◌, ◌-ℤ◌, ◌*ℤ◌, set, take, Float}
 use Rattle.std.proofs.Math.Path.{refl, sym, ap, subst}
@@ -7,11 +7,11 @@ use Rattle.std.proofs.Common.{◌∙◌, inl, inr, eqb→eq, take-suc, take_all}
 use Rattle.std.proofs.Math.IntN.{+ℤ_assoc, +ℤ_idr, +ℤ_idl, zero-*ℤ}
 use Rattle.std.proofs.Math.ListN.{length, get_or, length-set}
 use Rattle.std.proofs.Math.Seq.{get_or-set_same, get_or-set_other, get_or-take, length-take-le}
-use Rattle.std.specs.Float.Ieee.{lt, eq}
+use Rattle.std.specs.Float.Ieee.{eq}
 use Rattle.floats.specs.Num.{◌⊖◌, 0f}
 use Rattle.floats.specs.Zed.{P, N, A, ext, add_parts}
 use Rattle.floats.specs.Points.{int, Whole, Is}
-use Rattle.tolerances.specs.Tol.{Term, at}
+use Rattle.tolerances.specs.Tol.{Term}
 use Rattle.tolerances.specs.Laws.{laws}
 use Rattle.definition.specs.Model.{Model, Row, with_terms}
 use Rattle.definition.specs.Work.{Work, no_term}

@@ -1,5 +1,5 @@
 -- `forces_min`, `forces_max`, `fix_all`: a row whose corner is its side has its points at that corner alone; its variables are fixed there, and the row is dropped.
-use Rattle.std.specs.Prelude.{ℕ, ◌+◌, ◌*◌, ◌^◌, ◌≤◌, ◌<◌, ◌≡◌, ◌≢◌, Bool, not, T, ℤ, pos, ◌+ℤ◌, ◌*ℤ◌, length, set, Float}
+use Rattle.std.specs.Prelude.{ℕ, ◌^◌, ◌≤◌, ◌<◌, ◌≡◌, ◌≢◌, Bool, not, T, ℤ, pos, ◌+ℤ◌, ◌*ℤ◌, length, set, Float}
 use native.Mathlib.Omega.{arith}
 use Rattle.std.proofs.Math.Path.{refl, ap, ap₂}
 use Rattle.std.proofs.Common.{sym, subst, ◌∙◌, inl, inr, get_or-set_other}
@@ -20,7 +20,7 @@ use Rattle.definition.specs.Forcing.{corner, forcing_at, fix_all}
 use Rattle.points_kept.specs.Statements.{dot, Point}
 use Rattle.points_kept.proofs.Integers.{eq_parts, mul_cancel, mul_cancel_neg}
 use Rattle.definition.specs.Choices.{both}
-use Rattle.definition.specs.Tests.{and3, and, test, taking, picked, unpicked}
+use Rattle.definition.specs.Tests.{and3, test, taking, picked, unpicked}
 use Rattle.points_kept.proofs.WholeFloats.{of_lt, lt_of, zero_is, small, whole_neg, sign, sign_pos}
 use Rattle.points_kept.specs.WholeFloats.{Mag}
 use Rattle.points_kept.specs.Terms.{All, Distinct, TermOk, low, high, NonZero, lowest, highest}

@@ -1,23 +1,20 @@
 -- `forces_min`, `forces_max`, `fix_all`: a row whose corner is its side has its points at that corner alone; its variables are fixed there, and the row is dropped.
 use Rattle.std.specs.Prelude.{ℕ, ◌+◌, ◌*◌, ◌^◌, ◌≡◌, Bool, T, ℤ, ◌*ℤ◌, length}
 use native.Mathlib.Omega.{arith}
-use Rattle.std.proofs.Math.Path.{refl, ap}
+use Rattle.std.proofs.Math.Path.{refl}
 use Rattle.std.proofs.Common.{sym, ◌∙◌}
 use Rattle.std.proofs.Math.Bool.{true, false}
-use Rattle.std.specs.Float.Ieee.{le}
-use Rattle.floats.specs.Zed.{P, N, ◌⊑◌, ext, add_parts, sub_parts}
+use Rattle.floats.specs.Zed.{◌⊑◌, ext, add_parts, sub_parts}
 use Rattle.floats.specs.Points.{int}
-use Rattle.tolerances.specs.Tol.{at}
 use Rattle.definition.specs.declared.Activity.{Activity}
 use Rattle.definition.specs.Model.{Model, Row}
 use Rattle.definition.specs.Work.{Work, drop_row}
-use Rattle.definition.specs.Bounds.{fix}
 use Rattle.definition.specs.Sides.{hi_side, lo_side, near_min, near_max}
-use Rattle.definition.specs.Forcing.{corner, forces_min, forces_max, fix_all}
+use Rattle.definition.specs.Forcing.{forces_min, forces_max, fix_all}
 use Rattle.points_kept.specs.Statements.{dot, Within, Point}
 use Rattle.points_kept.proofs.Integers.{eq_parts}
 use Rattle.definition.specs.Tests.{and3, and}
-use Rattle.points_kept.proofs.WholeFloats.{small, diff}
+use Rattle.points_kept.proofs.WholeFloats.{diff}
 use Rattle.points_kept.specs.Terms.{All, least, most, low, high, NonZero, lowest, highest}
 use Rattle.points_kept.proofs.Terms.{all_map}
 use Rattle.points_kept.specs.Invariant.{GoodW}

@@ -5,7 +5,6 @@ use Rattle.std.specs.Prelude.{◌≡◌, refl, ℤ, pos, neg_ℤ, ◌+ℤ◌, �
 use Rattle.std.proofs.Common.{sym, ap, subst₂, ◌∙◌}
 use Rattle.std.proofs.Math.Path.{subst}
 use mathlib.Core.List.{List, [], ◌∷◌}
-use Rattle.std.proofs.Math.Dec.{T}
 use Rattle.std.proofs.Math.IntN.{zero-*ℤ, *ℤ-zero}
 use Rattle.std.specs.Float.Ieee.{of_bits, fits}
 use Rattle.floats.specs.Num.{◌⊗◌}

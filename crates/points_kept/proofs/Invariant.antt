@@ -1,6 +1,6 @@
 -- THE INVARIANT of the work on a model of whole numbers: bounds are whole and in order, no point is lost, each row at work says what the written row says, and
 -- each dropped one is met within the bounds.
-use Rattle.std.specs.Prelude.{ℕ, ◌+◌, ◌≤◌, ◌<◌, zero, suc, refl, ◌≡◌, ◌&&◌, List, eqb, ltb, ℤ, pos, ◌+ℤ◌, get_or, set, Float}
+use Rattle.std.specs.Prelude.{ℕ, ◌+◌, ◌≤◌, ◌<◌, zero, suc, refl, ◌≡◌, ◌&&◌, List, eqb, ltb, ℤ, ◌+ℤ◌, get_or, set, Float}
 use Rattle.std.proofs.Common.{arith, ap, sym, ◌∙◌, nltb→le, eqb→eq, length-set, get_or-set_same, get_or-set_other}
 use Rattle.std.proofs.Math.Path.{subst}
 use Rattle.std.proofs.Math.Logic.{inl, inr}
@@ -8,12 +8,12 @@ use Rattle.std.proofs.Math.Dec.{T, ltb→lt, eqb_refl}
 use Rattle.std.proofs.Math.ListN.{length, get_or-eq_default}
 use Rattle.std.specs.Float.Ieee.{nan, eq}
 use Rattle.floats.specs.Num.{is_finite}
-use Rattle.floats.specs.Zed.{P, N, A, ◌⊑◌, ext}
+use Rattle.floats.specs.Zed.{P, N, ◌⊑◌, ext}
 use Rattle.floats.specs.Points.{int}
 use Rattle.tolerances.specs.Tol.{at, Term}
 use Rattle.tolerances.specs.Laws.{laws}
 use Rattle.definition.specs.Model.{with_terms, Model, op_of, rhs_of, Row}
-use Rattle.definition.specs.Work.{Work, Step, stop, ◌>>=◌, no_row}
+use Rattle.definition.specs.Work.{Work, Step, ◌>>=◌, no_row}
 use Rattle.points_kept.specs.Statements.{PureInteger, Meets, dot, Within, Point}
 use Rattle.points_kept.proofs.Integers.{eq_parts}
 use Rattle.definition.specs.Tests.{and, test, all_true, differ}

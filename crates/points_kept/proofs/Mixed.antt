@@ -7,11 +7,9 @@ use Rattle.std.proofs.Math.Option.{none}
 use Rattle.std.specs.Float.Ieee.{of_int, round, le, lt, eq, fits, of_bits}
 use Rattle.floats.specs.Points.{Bounded}
 use Rattle.tolerances.specs.Tol.{at, term}
-use Rattle.definition.specs.Params.{params}
 use Rattle.definition.specs.Model.{Model, from, upto, nnz, rhs_of}
 use Rattle.definition.specs.Work.{Work, Step, stop, next, no_row}
 use Rattle.definition.specs.Activities.{activity}
-use Rattle.definition.specs.Rounds.{rounds}
 use Rattle.definition.specs.Refusal.{shortest, refusal, judging}
 use Rattle.definition.specs.Cases.{everything, #, bits}
 use Rattle.rows_kept.specs.Steps.{Each, went}

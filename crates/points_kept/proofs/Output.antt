@@ -7,7 +7,6 @@ use Rattle.std.proofs.Common.{sym, ◌∙◌}
 use Rattle.std.proofs.Math.Logic.{inl, inr}
 use mathlib.Core.List.Memᴰ
 use mathlib.Core.List.{List, [], ◌∷◌, ◌++◌, Memᴰ}
-use Rattle.std.proofs.Math.Option.{none}
 use Rattle.std.proofs.Math.ListN.{get_or}
 use Rattle.floats.specs.Points.{Whole, int}
 use Rattle.floats.specs.Num.{choose, is_finite}

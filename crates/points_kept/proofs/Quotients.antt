@@ -3,7 +3,7 @@ use Rattle.std.specs.Prelude.{◌^◌, ℤ, Float}
 use Rattle.std.proofs.Common.{arith, sym, subst, inl, inr}
 use Rattle.floats.specs.Num.{abs, ◌⊕◌, ◌⊖◌, ◌⊘◌, floor, ceil}
 use Rattle.floats.specs.WholeRounding.{Tol, NonNeg}
-use Rattle.floats.specs.Zed.{A, ◌⊑◌}
+use Rattle.floats.specs.Zed.{◌⊑◌}
 use Rattle.floats.specs.Points.{int, Whole, Bounded, ◌≼◌, Is}
 use Rattle.tolerances.specs.Laws.{laws}
 use Rattle.points_kept.proofs.Integers.{mul_mono, mul_anti}

@@ -1,10 +1,10 @@
 -- `redundant`: a row whose corners over the emitted box reach its sides, with slack and margin, is met by all that lies within the bounds. The margin is any that is 0 or more.
-use Rattle.std.specs.Prelude.{ℕ, ◌^◌, not, ◌||◌, T, eqb, ℤ, pos, length, Float}
+use Rattle.std.specs.Prelude.{ℕ, ◌^◌, not, ◌||◌, T, eqb, ℤ, length, Float}
 use native.Mathlib.Omega.{arith}
 use Rattle.std.proofs.Math.Path.{ap}
 use Rattle.std.proofs.Math.Logic.{inl, inr}
 use Rattle.std.proofs.Common.{T_not}
-use Rattle.std.specs.Float.Ieee.{is_nan, lt, le}
+use Rattle.std.specs.Float.Ieee.{is_nan, lt}
 use Rattle.floats.specs.Num.{◌⊕◌, ◌⊖◌, ◌⊗◌, 1f, is_finite, maxf}
 use Rattle.floats.specs.Zed.{P, N, ◌⊑◌}
 use Rattle.floats.specs.Points.{Is}

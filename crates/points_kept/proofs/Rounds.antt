@@ -7,7 +7,7 @@ use Rattle.floats.specs.Num.{choose}
 use Rattle.floats.specs.WholeRounding.{NonNeg}
 use Rattle.definition.specs.Params.{max_waves}
 use Rattle.definition.specs.Model.{Model, is_mip}
-use Rattle.definition.specs.Work.{Work, Step, stop, ◌>>=◌}
+use Rattle.definition.specs.Work.{Work, Step, ◌>>=◌}
 use Rattle.definition.specs.Wave.{waves}
 use Rattle.definition.specs.Tighten.{tighten_binary_coeffs}
 use Rattle.definition.specs.Dual.{dual_fix}

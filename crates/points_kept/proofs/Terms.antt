@@ -1,9 +1,8 @@
 -- LISTS OF TERMS: facts of each term, distinct variables, and the least and the greatest that a list comes to over a box.
-use Rattle.std.specs.Prelude.{ℕ, ◌<◌, zero, suc, ◌≡◌, ◌≢◌, not, T, length, get_or}
+use Rattle.std.specs.Prelude.{ℕ, ◌<◌, zero, suc, ◌≡◌, ◌≢◌, length, get_or}
 use Rattle.std.proofs.Common.{arith, sym, subst, inl, inr}
 use mathlib.Core.List.Memᴰ
 use mathlib.Core.List.{Memᴰ, List, [], ◌∷◌}
-use Rattle.floats.specs.Zed.{A}
 use Rattle.tolerances.specs.Tol.{Term}
 use Rattle.definition.specs.Work.{no_term}
 use Rattle.points_kept.specs.Terms.{All, Distinct}

@@ -6,7 +6,6 @@ use Rattle.std.proofs.Common.{sym, subst, inl}
 use mathlib.Core.List.{List, []}
 use Rattle.std.specs.Float.Ieee.{le, fits, of_bits}
 use Rattle.floats.specs.WholeRounding.{NonNeg}
-use Rattle.tolerances.specs.Tol.{at}
 use Rattle.definition.specs.declared.Counts.{Counts}
 use Rattle.definition.specs.Params.{params, Params}
 use Rattle.definition.specs.Model.{Reduced, infeasible, done, Model}

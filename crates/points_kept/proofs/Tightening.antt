@@ -6,7 +6,7 @@ use Rattle.std.specs.Prelude.{T, ℤ, length, set, Float}
 use Rattle.std.specs.Float.Ieee.{binary64, lt, of_int}
 use Rattle.floats.specs.Num.{◌⊕◌, ◌⊖◌, ½f, is_finite, maxf, minf, floor, ceil}
 use Rattle.floats.specs.Zed.{P, N}
-use Rattle.floats.specs.Points.{int, Held, ◌≼◌, ◌≺◌, ◌⊀◌, Is}
+use Rattle.floats.specs.Points.{Held, ◌≼◌, ◌≺◌, ◌⊀◌, Is}
 use Rattle.tolerances.specs.Tol.{at}
 use Rattle.tolerances.specs.Laws.{laws}
 use Rattle.definition.specs.Model.{Model, is_int, tightened}

@@ -3,7 +3,6 @@ use Rattle.std.specs.Prelude.{ℕ, T}
 use Rattle.std.proofs.Common.{arith}
 use Rattle.std.proofs.Math.Path.{ap}
 use Rattle.std.proofs.Math.Logic.{inl, inr}
-use Rattle.std.specs.Float.Ieee.{lt}
 use Rattle.floats.specs.Zed.{P, N}
 use Rattle.definition.specs.declared.Activity.{Activity}
 use Rattle.definition.specs.Model.{Model, Row}

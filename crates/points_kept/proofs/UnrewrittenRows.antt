@@ -3,7 +3,7 @@
 use Prim.Native.Nat.{ℕ, zero, suc, ◌+◌, ◌-◌, ◌≤◌, ◌<◌}
 use Rattle.std.proofs.Common.{arith, sym, ap, subst, ◌∙◌, inr, length-append}
 use Rattle.std.proofs.Math.Decide.{ℕ_discrete}
-use Rattle.std.specs.Prelude.{◌≡◌, ◌≢◌, true, false, get_or}
+use Rattle.std.specs.Prelude.{◌≡◌, ◌≢◌, true, get_or}
 use Rattle.std.proofs.Math.Path.{refl}
 use Rattle.std.proofs.Math.Logic.{inl}
 use mathlib.Core.List.{List, [], ◌∷◌, ◌++◌}

@@ -12,7 +12,6 @@ use Rattle.floats.proofs.Points.{to_units}
 use Rattle.floats.proofs.Quotients.{neg_is}
 use Rattle.floats.specs.WholeRounding.{⅜f, NonNeg, Tol}
 use Rattle.tolerances.specs.Laws.{laws}
-use Rattle.tolerances.specs.Tol.{at}
 use Rattle.points_kept.specs.Statements.{Tolerance}
 use Rattle.points_kept.proofs.Integers.{size_add, size_sub, size_mul_le}
 use Rattle.definition.specs.Tests.{and, taking, or, nor, or_intro, le_or, or_le}

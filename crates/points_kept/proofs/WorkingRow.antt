@@ -15,7 +15,7 @@ use Rattle.definition.specs.Sides.{hi_side, lo_side, mag_l, mag_u, budget_l, bud
 use Rattle.points_kept.specs.Statements.{PureInteger, dot, Within, Point}
 use Rattle.points_kept.proofs.Integers.{eq_parts}
 use Rattle.definition.specs.Tests.{and, taking, all_true}
-use Rattle.points_kept.proofs.WholeFloats.{∞_not, -∞_not, zero_is, small, tol_nonneg, whole_nonneg, tolerance, sum, mag_sum, mag_abs}
+use Rattle.points_kept.proofs.WholeFloats.{∞_not, -∞_not, zero_is, tol_nonneg, whole_nonneg, tolerance, sum, mag_sum, mag_abs}
 use Rattle.points_kept.specs.WholeFloats.{Mag}
 use Rattle.points_kept.specs.Invariant.{Sided, RowSided}
 use Rattle.points_kept.proofs.Invariant.{asks, agree_within}

@@ -1,9 +1,8 @@
 -- `Work::activity` is exact: the sum at each corner is the least, or the greatest, that the row comes to over the box, its magnitudes sum exactly, and no term is infinite.
 use Prim.Native.Nat.{ℕ, ◌*◌, ◌^◌, ◌≤◌, ◌<◌}
-use Rattle.std.specs.Prelude.{◌≡◌, T, ℤ, pos, length, Float}
+use Rattle.std.specs.Prelude.{◌≡◌, ℤ, pos, length, Float}
 use mathlib.Core.List.{List}
-use Rattle.floats.specs.Num.{abs}
-use Rattle.floats.specs.Zed.{P, N, A}
+use Rattle.floats.specs.Zed.{A}
 use Rattle.floats.specs.Points.{int, Is}
 use Rattle.floats.specs.WholeRounding.{NonNeg}
 use Rattle.tolerances.specs.Tol.{Term, at}

@@ -3,7 +3,7 @@
 -- numbers, working or emitted, which are the same numbers (Invariant, `Interval`). `ActivityEverywhere` has the theorem.
 use Rattle.std.specs.Prelude.{ℕ, ◌+◌, ◌≡◌, ℤ, pos, ◌*ℤ◌, length, Float}
 use mathlib.Core.List.{List, [], ◌∷◌}
-use Rattle.floats.specs.Zed.{N, A, ◌⊑◌}
+use Rattle.floats.specs.Zed.{A, ◌⊑◌}
 use Rattle.floats.specs.Points.{int, Is}
 use Rattle.floats.specs.WholeRounding.{NonNeg}
 use Rattle.tolerances.specs.Tol.{Term}
@@ -11,8 +11,6 @@ use Rattle.definition.specs.declared.Activity.{Activity}
 use Rattle.definition.specs.Model.{Model}
 use Rattle.definition.specs.Work.{Work}
 use Rattle.points_kept.specs.Statements.{dot, Within}
-use Rattle.points_kept.specs.Terms.{low}
-use Rattle.points_kept.specs.Activity.{L}
 
 -- ---- what is said of an activity
 -- the magnitudes of the terms at x, summed

@@ -4,7 +4,7 @@ use Rattle.std.specs.Prelude.{◌≡◌, ◌≢◌, List, length, Float}
 use Rattle.tolerances.specs.Tol.{at}
 use Rattle.definition.specs.Model.{Model}
 use Rattle.definition.specs.Work.{Work}
-use Rattle.points_kept.specs.Invariant.{Narrow, Narrower, Good, GoodW}
+use Rattle.points_kept.specs.Invariant.{Narrower, GoodW}
 
 -- ---- a list with one element changed, or none
 pub record Sets (v : ℕ) (old new : List Float) (x : Float) : Type 0 where

@@ -2,7 +2,7 @@
 use Prim.Native.Nat.{ℕ, ◌<◌}
 use Rattle.std.specs.Prelude.{◌⊎◌, Bool}
 use Rattle.std.proofs.Math.Dec.{T}
-use Rattle.definition.specs.Model.{Model, Row}
+use Rattle.definition.specs.Model.{Model}
 use Rattle.definition.specs.Work.{Work}
 use Rattle.definition.specs.Tighten.{Rewriting}
 use Rattle.points_kept.specs.Statements.{PureInteger}

@@ -3,11 +3,9 @@
 use Rattle.std.specs.Prelude.{ℕ, zero, suc, false, List, [], ◌∷◌, pos, Float}
 use Rattle.std.proofs.Math.Option.{Option, none, some}
 use Rattle.std.specs.Float.{binary64}
-use Rattle.std.specs.Float.Ieee.{of_int, round, le, eq}
-use Rattle.floats.specs.Zed.{A}
-use Rattle.tolerances.specs.Tol.{at}
+use Rattle.std.specs.Float.Ieee.{of_int, round}
 use Rattle.definition.specs.Params.{params}
-use Rattle.definition.specs.Model.{Answer, infeasible, done, Model, counts}
+use Rattle.definition.specs.Model.{Answer, infeasible, done, Model}
 use Rattle.definition.specs.Cases.{Case}
 
 abbrev pub number : ℕ → Float

@@ -1,9 +1,7 @@
 -- `fold_fixed`: what is left of a row after its fixed variables and zero coefficients have left says what the row says, and has no zero coefficient.
-use Prim.Native.Nat.{ℕ, zero, ◌+◌, ◌-◌, ◌*◌, ◌<◌}
-use Rattle.std.specs.Prelude.{◌≡◌, ◌≢◌, List, T, ℤ, ◌*ℤ◌}
-use Rattle.std.proofs.Math.Path.{ap}
+use Prim.Native.Nat.{ℕ, ◌+◌, ◌-◌, ◌<◌}
+use Rattle.std.specs.Prelude.{◌≡◌, ◌≢◌, List, ℤ, ◌*ℤ◌}
 use Rattle.std.proofs.Math.ListN.{length, get_or}
-use Rattle.floats.specs.Zed.{N, A}
 use Rattle.floats.specs.Points.{int}
 use Rattle.tolerances.specs.Tol.{Term}
 use Rattle.definition.specs.Model.{Model, Row}

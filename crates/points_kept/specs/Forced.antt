@@ -1,8 +1,6 @@
 -- `forces_min`, `forces_max`, `fix_all`: a row whose corner is its side has its points at that corner alone; its variables are fixed there, and the row is dropped.
-use Rattle.std.specs.Prelude.{ℕ, ◌+◌, ◌*◌, ◌≡◌, Bool, T, ℤ, pos, ◌+ℤ◌, ◌*ℤ◌, length, set, Float}
+use Rattle.std.specs.Prelude.{ℕ, ◌≡◌, Bool, ℤ, pos, ◌+ℤ◌, ◌*ℤ◌, length, set, Float}
 use mathlib.Core.List.{List, [], ◌∷◌}
-use Rattle.std.specs.Float.Ieee.{le}
-use Rattle.floats.specs.Zed.{N}
 use Rattle.floats.specs.Points.{int}
 use Rattle.tolerances.specs.Tol.{Term, at}
 use Rattle.definition.specs.declared.Activity.{Activity}
@@ -10,7 +8,7 @@ use Rattle.definition.specs.Model.{Model, Row}
 use Rattle.definition.specs.Work.{Work}
 use Rattle.definition.specs.Forcing.{corner}
 use Rattle.points_kept.specs.Statements.{Within}
-use Rattle.points_kept.specs.Terms.{All, TermOk, low, NonZero}
+use Rattle.points_kept.specs.Terms.{All, TermOk, NonZero}
 use Rattle.points_kept.specs.Invariant.{GoodW}
 use Rattle.points_kept.specs.Changes.{From, Nars}
 use Rattle.points_kept.specs.Activity.{ActivityOf, L, H}

@@ -1,10 +1,8 @@
 -- `implied` to `implied_bounds`: the bounds that a row of two terms or more implies keep the invariant.
-use Rattle.std.specs.Prelude.{ℕ, ◌+◌, ◌*◌, ℤ, ◌+ℤ◌, ◌*ℤ◌}
+use Rattle.std.specs.Prelude.{ℕ, ℤ, ◌+ℤ◌, ◌*ℤ◌}
 use mathlib.Core.List.{List}
-use Rattle.std.proofs.Math.Dec.{T}
 use Rattle.std.proofs.Math.ListN.{length}
-use Rattle.std.specs.Float.Ieee.{le}
-use Rattle.floats.specs.Zed.{N, A, ◌⊑◌}
+use Rattle.floats.specs.Zed.{◌⊑◌}
 use Rattle.floats.specs.Points.{int}
 use Rattle.tolerances.specs.Tol.{Term}
 use Rattle.definition.specs.declared.Activity.{Activity}

@@ -1,7 +1,6 @@
 -- `CDouble` AND `implied_slack` on whole numbers: sums, halves and products of pairs are exact, with nothing left over, so the slack of a row is exact.
 use Prim.Native.Nat.{ℕ, ◌+◌, ◌*◌, ◌^◌, ◌≤◌, ◌<◌}
 use Rattle.std.specs.Prelude.{ℤ, pos, Float}
-use Rattle.std.proofs.Math.Dec.{T}
 use Rattle.floats.specs.Zed.{A}
 use Rattle.floats.specs.Points.{Is}
 use Rattle.cdouble.specs.declared.CDouble.{CDouble}

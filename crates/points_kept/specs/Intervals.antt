@@ -2,9 +2,7 @@
 -- of whole numbers within the old one, and nothing is asked of the row that the bound comes from: it may be rewritten, and the quotient may be a NaN or
 -- infinite.
 use Rattle.std.specs.Float.Ieee.{Float}
-use Rattle.floats.specs.Zed.{N}
-use Rattle.floats.specs.Points.{int, Whole, ◌≼◌}
-use Rattle.definition.specs.Tests.{or}
+use Rattle.floats.specs.Points.{Whole, ◌≼◌}
 use Rattle.points_kept.specs.Invariant.{Interval, Narrow}
 
 pub record Shrunk (el eh wl' wh' el' eh' : Float) : Type 0 where

@@ -6,9 +6,9 @@ use Rattle.std.proofs.Math.Dec.{T}
 use Rattle.std.proofs.Math.ListN.{length}
 use Rattle.std.specs.Float.Ieee.{eq}
 use Rattle.floats.specs.Num.{is_finite, ∞f, -∞f}
-use Rattle.floats.specs.Zed.{P, N, A, ◌⊑◌, ext}
+use Rattle.floats.specs.Zed.{A, ◌⊑◌}
 use Rattle.floats.specs.Points.{int, Whole, Bounded, Is}
-use Rattle.tolerances.specs.Tol.{at, Term}
+use Rattle.tolerances.specs.Tol.{at}
 use Rattle.definition.specs.declared.Counts.{Counts}
 use Rattle.definition.specs.Model.{Model, written, op_of, rhs_of, Row}
 use Rattle.definition.specs.Work.{Work, Step, stop, next, no_row}

@@ -2,8 +2,6 @@
 -- objective x. Of its rows 3u + w ≤ 10 and u + w ≥ 1 the first is rewritten, to a coefficient that is not whole, and x is fixed by the dual step. In the state
 -- that the rounds end in the second row's activity is exact: from 0 to 9.
 use Rattle.std.specs.Prelude.{true, [], ◌∷◌}
-use Rattle.std.specs.Float.Ieee.{round, le}
-use Rattle.tolerances.specs.Tol.{at}
 use Rattle.definition.specs.Params.{params}
 use Rattle.definition.specs.Model.{Model, as_written}
 use Rattle.definition.specs.Work.{Work, Step, stop, next}

@@ -1,18 +1,13 @@
 -- `empty_row_check`: a row whose terms have all left is met by all within the bounds, or by none.
 use Rattle.std.specs.Prelude.{ℕ, ◌≡◌, Bool, ℤ, Float}
-use Rattle.std.proofs.Math.Bool.{true}
 use mathlib.Core.List.{List, []}
-use Rattle.std.proofs.Math.Dec.{T}
 use Rattle.std.proofs.Math.ListN.{length}
-use Rattle.floats.specs.Zed.{A}
-use Rattle.cdouble.specs.Double.{value}
-use Rattle.tolerances.specs.Tol.{Term, outside, slack_min, slack_max, row_tolerance, trivial_verdict, says_true, at, implied_slack}
-use Rattle.tolerances.specs.Budget.{row_tol}
+use Rattle.tolerances.specs.Tol.{Term, outside, slack_min, slack_max, row_tolerance, trivial_verdict, says_true, implied_slack}
 use Rattle.definition.specs.Model.{Model, op_of, rhs_of, written, Row}
-use Rattle.definition.specs.Work.{Work, fixed}
+use Rattle.definition.specs.Work.{Work}
 use Rattle.definition.specs.Singles.{fixed_value}
 use Rattle.points_kept.specs.Statements.{Within}
-use Rattle.points_kept.specs.Invariant.{Sided, RowSided, GoodW}
+use Rattle.points_kept.specs.Invariant.{RowSided, GoodW}
 use Rattle.points_kept.specs.WorkingRow.{AtWork}
 
 -- good, with the bounds of w, within which row r is met

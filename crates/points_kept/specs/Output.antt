@@ -1,14 +1,12 @@
 -- `out_from` to `answer_of`: a row that goes out as written, and one that all within the bounds meet, together are the model's rows, so the answer is exact.
 use Prim.Native.Nat.{ℕ, ◌<◌}
-use Rattle.std.specs.Prelude.{◌≡◌, ◌⊎◌, T, ℤ, length}
-use mathlib.Core.List.Memᴰ
+use Rattle.std.specs.Prelude.{◌≡◌, ◌⊎◌, ℤ, length}
 use mathlib.Core.List.{List, Memᴰ}
 use Rattle.floats.specs.Points.{int}
-use Rattle.tolerances.specs.Tol.{at}
-use Rattle.definition.specs.Model.{Model, written, op_of, Row, Emit, Reduced}
+use Rattle.definition.specs.Model.{Model, op_of, Emit, Reduced}
 use Rattle.definition.specs.Work.{Work}
 use Rattle.definition.specs.Emit.{Out, Final, fails, final, written_entry}
-use Rattle.points_kept.specs.Statements.{PureInteger, dot, Within, Point, terms_of, Meets}
+use Rattle.points_kept.specs.Statements.{PureInteger, dot, Within, terms_of, Meets}
 use Rattle.points_kept.specs.Invariant.{RowSided, GoodW, NoPoint}
 
 module _ (M : Model) (pure : PureInteger M) where

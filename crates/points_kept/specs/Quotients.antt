@@ -1,6 +1,6 @@
 -- ROUNDING DIRECTION through the quotients: an implied bound d / a, divided, relaxed and rounded, cuts no whole value that the exact quotient allows.
 use Rattle.std.specs.Prelude.{◌⊎◌, ℤ, pos, ◌*ℤ◌}
-use Rattle.floats.specs.Zed.{A, ◌⊑◌, ◌⊏◌}
+use Rattle.floats.specs.Zed.{◌⊑◌, ◌⊏◌}
 
 -- x is at most d / a, or at least d / a, of whole numbers and multiplied out
 pub data AtMost (a d x : ℤ) : Type 0 where

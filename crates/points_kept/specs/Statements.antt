@@ -10,7 +10,7 @@ use Rattle.floats.specs.Num.{choose, 0f}
 use Rattle.floats.specs.Zed.{◌⊑◌}
 use Rattle.floats.specs.Points.{int, Whole, Bounded, Held, ◌≼◌}
 use Rattle.tolerances.specs.Tol.{Term, at, zip_terms}
-use Rattle.definition.specs.Model.{Model, from, upto, nnz, written, op_of, rhs_of, Emit, Reduced, Answer, infeasible, done}
+use Rattle.definition.specs.Model.{Model, nnz, written, op_of, rhs_of, Emit, Reduced, Answer, infeasible, done}
 use Rattle.definition.specs.Accepted.{Shaped}
 
 -- ---- the models

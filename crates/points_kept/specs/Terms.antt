@@ -1,6 +1,5 @@
 -- LISTS OF TERMS: facts of each term, distinct variables, and the least and the greatest that a list comes to over a box.
 use Rattle.std.specs.Prelude.{ℕ, ◌^◌, ◌<◌, ◌+◌, ◌≡◌, not, T, ℤ, pos, ◌+ℤ◌, ◌*ℤ◌, length, get_or}
-use mathlib.Core.List.Memᴰ
 use mathlib.Core.List.{List, [], ◌∷◌}
 use Rattle.std.specs.Float.Ieee.{eq, lt}
 use Rattle.floats.specs.Zed.{P, A}

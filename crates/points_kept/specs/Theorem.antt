@@ -1,10 +1,8 @@
 -- PRESOLVE KEEPS EXACTLY THE POINTS of a model of whole numbers alone, with dual fixing off, where no coefficient is rewritten: `points_kept`.
 use Rattle.std.specs.Prelude.{ℕ, ◌<◌, ◌≡◌, length}
-use Rattle.std.specs.Float.Ieee.{le}
 use Rattle.floats.specs.Points.{◌⊀◌}
 use Rattle.floats.specs.WholeRounding.{NonNeg}
 use Rattle.tolerances.specs.Tol.{at}
-use Rattle.definition.specs.Params.{params}
 use Rattle.definition.specs.Model.{Model}
 use Rattle.points_kept.specs.Statements.{PureInteger}
 

@@ -9,7 +9,6 @@ use Rattle.floats.specs.Num.{0f}
 use Rattle.tolerances.specs.Tol.{Term}
 use Rattle.definition.specs.Model.{Model, written, Row}
 use Rattle.definition.specs.Work.{Work, no_term}
-use Rattle.rows_kept.specs.Kept.{folded}
 use Rattle.rows_kept.specs.AllRows.{AllRows}
 use Rattle.points_kept.specs.Statements.{PureInteger}
 use Rattle.points_kept.specs.Terms.{All, TermOk, Distinct}

@@ -1,7 +1,7 @@
 -- THE BOX of a farm model stays a box of whole numbers, in every state that presolve reaches and whatever became of the rows: after rewrites and dual fixing
 -- too. Each variable's working and emitted bounds are whole, equal as numbers, in order, and within the model's own.
-use Rattle.std.specs.Prelude.{ℕ, ◌<◌, ◌≡◌, ◌≢◌, List, T, ℤ, length, Float}
-use Rattle.floats.specs.Zed.{P, A, ◌⊑◌}
+use Rattle.std.specs.Prelude.{ℕ, ◌<◌, ◌≡◌, ◌≢◌, List, ℤ, length, Float}
+use Rattle.floats.specs.Zed.{◌⊑◌}
 use Rattle.floats.specs.Points.{int, Whole}
 use Rattle.tolerances.specs.Tol.{at}
 use Rattle.definition.specs.Model.{Model}

@@ -1,10 +1,7 @@
 -- WHOLE FLOATS: their order is that of the numbers; sums, differences and products of known sizes are exact; the smaller and the larger of two; magnitudes; tolerances against whole numbers.
-use Rattle.std.specs.Prelude.{ℕ, ◌≤◌, ◌^◌, T, pos, ℤ, Float}
-use Rattle.std.specs.Float.Ieee.{le, neg}
-use Rattle.floats.specs.Zed.{P, A, ◌⊑◌}
+use Rattle.std.specs.Prelude.{ℕ, ◌≤◌, ◌^◌, pos, ℤ, Float}
+use Rattle.floats.specs.Zed.{A, ◌⊑◌}
 use Rattle.floats.specs.Points.{int, Whole, Is}
-use Rattle.tolerances.specs.Tol.{at}
-use Rattle.definition.specs.Tests.{or}
 
 -- a part of a row's sum: a whole number of a term's size
 abbrev pub Part : Float → ℤ → Type 0

@@ -1,6 +1,5 @@
 -- A ROW AT WORK in a state of the invariant: what is left of it says what the written row says, its sides and magnitudes are whole, its budgets are tolerances.
-use Rattle.std.specs.Prelude.{ℕ, ◌<◌, T, length}
-use Rattle.floats.specs.Zed.{P, A}
+use Rattle.std.specs.Prelude.{ℕ, ◌<◌, length}
 use Rattle.definition.specs.Model.{Model, Row}
 use Rattle.definition.specs.Work.{Work}
 use Rattle.points_kept.specs.Statements.{PureInteger}

@@ -1,16 +1,15 @@
 -- The walk over waves, the coefficient step and rounds: a property that `Kept` keeps is kept by each, and no more waves are counted than the cap allows.
 use Prim.Native.Nat.{ℕ, zero, suc, ◌-◌}
 use native.Mathlib.Omega.{arith}
-use Rattle.std.proofs.Math.Path.{refl, ap}
+use Rattle.std.proofs.Math.Path.{refl}
 use Rattle.definition.specs.Params.{max_waves}
 use Rattle.definition.specs.Model.{Model, passed}
 use Rattle.definition.specs.Work.{Work, with_counts}
-use Rattle.definition.specs.Wave.{wave, waves}
 use Rattle.definition.specs.Rounds.{after_waves, rounds}
 use Rattle.definition.specs.Choices.{both}
 use Rattle.rows_kept.specs.Steps.{Each, went}
 use Rattle.rows_kept.proofs.Steps.{then}
-use Rattle.rows_kept.specs.Kept.{le, Kept}
+use Rattle.rows_kept.specs.Kept.{Kept}
 use Rattle.rows_kept.proofs.Waves.{after_kept, passes_kept, waves_kept}
 use Rattle.rows_kept.specs.Waves.{Capped, Passes}
 

@@ -2,7 +2,7 @@
 use Rattle.std.specs.Prelude.{ℕ, zero, suc, ◌-◌, ◌<◌, List, [], ◌∷◌, ◌++◌, length, get_or, take, drop, set, Float}
 use Rattle.std.proofs.Common.{arith}
 use Rattle.tolerances.specs.Tol.{Term, term, zip_terms}
-use Rattle.definition.specs.Model.{Model, nnz, from, written, Row, as_written}
+use Rattle.definition.specs.Model.{Model, nnz, from, written, as_written}
 use Rattle.definition.specs.Work.{Work, no_term}
 use Rattle.definition.specs.Folds.{swap_remove, fold_term}
 use Rattle.definition.specs.Tighten.{set_coeff}

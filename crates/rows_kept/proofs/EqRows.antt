@@ -1,10 +1,10 @@
 -- No Eq row is rewritten: both of its sides stay the same float, so it has no form that the coefficient step takes.
-use Rattle.std.specs.Prelude.{ℕ, ◌≡◌, refl, true, false, List, [], ◌∷◌, ◌++◌, Float}
+use Rattle.std.specs.Prelude.{ℕ, ◌≡◌, refl, List, [], ◌∷◌, ◌++◌, Float}
 use Rattle.std.proofs.Common.{sym, ap, ◌∙◌, subst, arith}
 use Rattle.std.proofs.Math.Bool.{and-not_self}
 use Rattle.std.proofs.Math.Option.{Option, none, some}
 use Rattle.floats.specs.Num.{choose, ◌⊖◌, is_finite}
-use Rattle.definition.specs.Model.{Model, Binding, Row, as_written, Emit}
+use Rattle.definition.specs.Model.{Model, Binding, Row, as_written}
 use Rattle.definition.specs.Work.{Work}
 use Rattle.definition.specs.Folds.{fold_term}
 use Rattle.definition.specs.Rewrites.{Form, le_form, ge_form, no_form, form_of}

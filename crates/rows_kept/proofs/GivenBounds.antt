@@ -1,6 +1,5 @@
 -- A variable that is no integer variable keeps its given bounds, through every step, equal as floats; and both lists keep their lengths.
-use Rattle.std.specs.Prelude.{refl, List, set, Float}
-use Rattle.tolerances.specs.Tol.{at}
+use Rattle.std.specs.Prelude.{refl, List, Float}
 use Rattle.definition.specs.Model.{Model}
 use Rattle.definition.specs.Work.{drop_row}
 use Rattle.rows_kept.specs.Kept.{Kept}

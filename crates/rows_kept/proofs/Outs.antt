@@ -4,7 +4,7 @@ use Rattle.std.proofs.Math.Nat.{add-zero}
 use Rattle.std.proofs.Common.{add-suc, suc-add}
 use Rattle.std.specs.Prelude.{◌≡◌, refl, true, false}
 use Rattle.definition.specs.declared.Counts.{Counts}
-use Rattle.definition.specs.Model.{Model, Row}
+use Rattle.definition.specs.Model.{Model}
 use Rattle.definition.specs.Work.{Work, Step, drop_row, trivial}
 use Rattle.definition.specs.Singles.{empty_row_check}
 use Rattle.definition.specs.Emit.{Out, Final, fails, final, out_row, out_empty, out_alive, out_one, out_from}

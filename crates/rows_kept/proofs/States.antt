@@ -4,7 +4,7 @@
 -- state here holds of more than is asked.
 use Prim.Native.Nat.{ℕ, zero, suc, ◌-◌}
 use Rattle.std.proofs.Common.{zero-add, ap, subst, ◌∙◌}
-use Rattle.std.specs.Prelude.{◌≡◌, length, set, Float}
+use Rattle.std.specs.Prelude.{◌≡◌, length, Float}
 use Rattle.std.proofs.Math.Path.{refl}
 use Rattle.std.proofs.Math.Bool.{Bool, true, false}
 use mathlib.Core.List.{List, [], ◌∷◌}
@@ -13,14 +13,14 @@ use Rattle.std.proofs.Math.ListN.{get_or}
 use Rattle.tolerances.specs.Tol.{Term}
 use Rattle.definition.specs.declared.Activity.{Activity}
 use Rattle.definition.specs.Params.{max_waves}
-use Rattle.definition.specs.Model.{Model, Row, counts, passed, Answer, infeasible}
+use Rattle.definition.specs.Model.{Model, Row, passed}
 use Rattle.definition.specs.Work.{Work, with_counts, Step, stop, next, no_row, drop_row}
 use Rattle.definition.specs.Begin.{crossed, Bounds, cross, bounds, Rows, false_row, rows_are, round_from, read_from}
 use Rattle.definition.specs.Bounds.{fix, upper_int, upper_real, tighten_upper, lower_int, lower_real, tighten_lower}
 use Rattle.definition.specs.Singles.{empty_row_check, singleton_int, singleton_bounds, singleton_drop, singleton_row}
-use Rattle.definition.specs.Forcing.{corner, fix_all}
+use Rattle.definition.specs.Forcing.{fix_all}
 use Rattle.definition.specs.Implied.{implied, implied_term, implied_bounds}
-use Rattle.definition.specs.Dual.{dual_var, dual_from, dual_fix}
+use Rattle.definition.specs.Dual.{dual_from, dual_fix}
 use Rattle.definition.specs.Wave.{several_terms, by_count, wave_row, wave_rows, wave, waves}
 use Rattle.definition.specs.Rounds.{dual_step, after_waves, rounds}
 use Rattle.definition.specs.Emit.{no_out, Final, fails, final, answer_of}
@@ -36,7 +36,7 @@ use Rattle.rows_kept.specs.Waves.{Same}
 use Rattle.rows_kept.proofs.Waves.{get_set, tighten_kept}
 use Rattle.rows_kept.specs.Outs.{Ends, failed, ended, Going}
 use Rattle.rows_kept.proofs.Outs.{from_ends, goes_kept}
-use Rattle.rows_kept.specs.Whole.{Read, ReadR, reads, unread, begun, reduced}
+use Rattle.rows_kept.specs.Whole.{Read, ReadR, reads, unread, begun}
 use Rattle.rows_kept.proofs.Whole.{read_from_lem}
 use Rattle.rows_kept.specs.States.{Answered, Halts, I, On, Reaches, at_turn, before, begins, changes, counted, drops, fixes, forces, found_infeasible, goes, halts, lowers, marks, passes, raises, reduced_to, singles}
 

@@ -7,7 +7,7 @@ use Rattle.std.specs.Prelude.{◌≡◌, Bool, true, false, length, Float}
 use Rattle.std.proofs.Math.Path.{refl}
 use mathlib.Core.List.{List, []}
 use Rattle.std.proofs.Math.Option.{Option, none, some}
-use Rattle.tolerances.specs.Tol.{at, says_true}
+use Rattle.tolerances.specs.Tol.{says_true}
 use Rattle.definition.specs.declared.Counts.{Counts}
 use Rattle.definition.specs.Params.{max_waves}
 use Rattle.definition.specs.Model.{Model, Row, counts, Reduced, done}

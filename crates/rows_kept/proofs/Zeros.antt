@@ -15,7 +15,7 @@ use Rattle.tolerances.specs.Tol.{Term, term}
 use Rattle.definition.specs.declared.Activity.{Activity}
 use Rattle.definition.specs.Params.{max_waves}
 use Rattle.definition.specs.Model.{Model, nnz, Binding, Row, as_written}
-use Rattle.definition.specs.Work.{Work, with_marks, with_row, Step, stop, next, ◌>>=◌, no_row, no_term, has, drop_row}
+use Rattle.definition.specs.Work.{Work, with_marks, with_row, Step, next, ◌>>=◌, no_row, no_term, has, drop_row}
 use Rattle.definition.specs.Folds.{swap_remove, fold_term, fold_step, fold_loop, widen, relax_with, relax_binding, given_back, hold_rewrites, fold_fixed}
 use Rattle.definition.specs.Rewrites.{Form, keeps, vacuous}
 use Rattle.definition.specs.Tighten.{Rewriting as State, set_coeff, binary, rewrite_of, rewrite_loop, tighten_row}

@@ -2,7 +2,6 @@
 use Rattle.std.specs.Prelude.{ℕ, false, List, get_or}
 use Rattle.definition.specs.Model.{Model, Row, with_alive}
 use Rattle.definition.specs.Work.{no_row}
-use Rattle.rows_kept.specs.Kept.{Kept}
 use Rattle.rows_kept.specs.RowSteps.{RowKept}
 
 -- a row past the end is `no_row`

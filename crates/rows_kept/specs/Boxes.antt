@@ -2,7 +2,7 @@
 use Rattle.std.specs.Prelude.{◌≡◌, Float}
 use Rattle.std.proofs.Math.Bool.{true}
 use mathlib.Core.List.{List, [], ◌∷◌}
-use Rattle.tolerances.specs.Tol.{Term, at}
+use Rattle.tolerances.specs.Tol.{Term}
 use Rattle.definition.specs.Model.{Model, is_int}
 use Rattle.definition.specs.Work.{Work}
 

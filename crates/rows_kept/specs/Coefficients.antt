@@ -1,12 +1,11 @@
 -- No coefficient that goes out is a NaN, if none of the model's is: a row's terms are the model's or were put there by a rewrite.
 use Rattle.std.specs.Prelude.{ℕ, ◌≡◌, false, Float}
 use Rattle.std.specs.Float.Ieee.{is_nan}
-use Rattle.tolerances.specs.Tol.{Term, term}
+use Rattle.tolerances.specs.Tol.{Term}
 use Rattle.definition.specs.Model.{Model, Row}
 use Rattle.definition.specs.Work.{Work}
 use Rattle.definition.specs.Emit.{Out}
 use Rattle.rows_kept.specs.Statements.{All, Spans}
-use Rattle.rows_kept.specs.Kept.{folded}
 
 abbrev pub IsNumber : Float → Type 0
 IsNumber a = is_nan a ≡ false

@@ -1,6 +1,6 @@
 -- The first count is the number of rows that are not alive, through every step; so in the end it is the number of rows with no entry.
 use Prim.Native.Nat.{ℕ, ◌+◌, ◌<◌}
-use Rattle.std.specs.Prelude.{◌≡◌, Bool, set}
+use Rattle.std.specs.Prelude.{◌≡◌, Bool}
 use Rattle.std.proofs.Math.Bool.{true, false, not}
 use mathlib.Core.List.{List}
 use Rattle.std.proofs.Math.ListN.{length, get_or}

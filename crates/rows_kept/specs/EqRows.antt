@@ -4,7 +4,6 @@ use Rattle.std.proofs.Math.Option.{none}
 use Rattle.floats.specs.Num.{is_finite}
 use Rattle.definition.specs.Model.{Model, op_of, Row, Emit}
 use Rattle.definition.specs.Rewrites.{Form, le_form, ge_form, no_form}
-use Rattle.rows_kept.specs.Kept.{le, ge}
 
 pub record EqRow (row : Row) : Type 0 where
   pub sides : row.lo ≡ row.hi

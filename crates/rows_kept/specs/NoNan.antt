@@ -1,8 +1,7 @@
 -- No bound that goes out is a NaN: rounding takes numbers to numbers, and every later bound is a number.
 use Prim.Native.Nat.{ℕ, ◌<◌}
 use Rattle.std.specs.Prelude.{◌≡◌, false, List, length, Float}
-use Rattle.std.specs.Float.{nan}
-use Rattle.std.specs.Float.Ieee.{low, size, is_nan}
+use Rattle.std.specs.Float.Ieee.{is_nan}
 use Rattle.tolerances.specs.Tol.{at}
 use Rattle.definition.specs.Model.{Model}
 use Rattle.definition.specs.Work.{Work}

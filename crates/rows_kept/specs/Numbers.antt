@@ -1,6 +1,5 @@
 -- A float that passed a test of the reductions is a number, and one above or below zero is no zero.
-use Rattle.std.specs.Prelude.{◌≡◌, false, T, Float}
-use Rattle.std.specs.Float.{nan}
+use Rattle.std.specs.Prelude.{◌≡◌, false, Float}
 use Rattle.std.specs.Float.Ieee.{is_nan, eq}
 use Rattle.floats.specs.Num.{0f}
 

@@ -1,5 +1,5 @@
 -- The loop over the rows that go out: the ways that a row goes, and the walk over them.
-use Prim.Native.Nat.{ℕ, suc, ◌+◌}
+use Prim.Native.Nat.{ℕ, suc}
 use Rattle.std.specs.Prelude.{◌≡◌, true, false, ◌++◌, get_or}
 use Rattle.floats.specs.Num.{is_finite}
 use Rattle.definition.specs.declared.Counts.{Counts}
@@ -8,7 +8,6 @@ use Rattle.definition.specs.Work.{Work, with_row, no_row, drop_row, trivial}
 use Rattle.definition.specs.Folds.{fold_fixed}
 use Rattle.definition.specs.Bindings.{rewritten_bound}
 use Rattle.definition.specs.Emit.{sort_terms, Out, Final, fails, final, keep_row, emit_written, emit_rewritten}
-use Rattle.rows_kept.specs.Kept.{folded}
 
 -- row r as it stands, and folded once more
 abbrev pub row_at : ℕ → Work → Row

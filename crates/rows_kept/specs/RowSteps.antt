@@ -1,10 +1,9 @@
 -- What a property of a row has to be kept by, so that folding and the coefficient step keep it, and the walk over these steps.
 use Prim.Native.Nat.{ℕ, ◌+◌, ◌≤◌, ◌<◌}
 use Rattle.std.specs.Prelude.{◌≡◌, true, Float}
-use Rattle.std.proofs.Math.Option.{none, some}
+use Rattle.std.proofs.Math.Option.{some}
 use Rattle.std.proofs.Math.ListN.{length, get_or}
-use Rattle.floats.specs.Num.{gt}
-use Rattle.definition.specs.Model.{Model, written, Binding, Row, with_touched, with_terms, with_range, with_binding, as_written}
+use Rattle.definition.specs.Model.{Model, Binding, Row, with_touched, with_terms, with_range, with_binding, as_written}
 use Rattle.definition.specs.Work.{Work, no_term}
 use Rattle.definition.specs.Folds.{swap_remove, fold_term}
 use Rattle.definition.specs.Rewrites.{Form, form_of, Rewrite, keeps, coeff_only, coeff_bound}

@@ -1,11 +1,9 @@
 -- A row never has more terms, live and folded, than as written; so the rewritten terms fit where the model's do, and their spans follow one another.
 use Rattle.std.specs.Prelude.{ℕ, ◌+◌, ◌≤◌, length}
-use Rattle.tolerances.specs.Tol.{term}
 use Rattle.definition.specs.Model.{Model, from, nnz, Row}
 use Rattle.definition.specs.Work.{Work}
 use Rattle.definition.specs.Emit.{Out}
-use Rattle.rows_kept.specs.Statements.{Consecutive, spans, Spans}
-use Rattle.rows_kept.specs.Kept.{folded}
+use Rattle.rows_kept.specs.Statements.{Consecutive, Spans}
 
 -- ---- a row's terms
 abbrev pub Fits : Model → ℕ → Row → Type 0

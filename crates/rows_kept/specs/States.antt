@@ -12,7 +12,7 @@ use Rattle.definition.specs.declared.Counts.{Counts}
 use Rattle.definition.specs.Model.{Model, is_int, Row, counts, passed, Answer, infeasible, done}
 use Rattle.definition.specs.Work.{Work, with_marks, with_row, with_counts, Step, stop, next, no_row, drop_row}
 use Rattle.definition.specs.Folds.{fold_fixed}
-use Rattle.definition.specs.Begin.{crossed, cross, bounds, rows_are, round_from, read_from}
+use Rattle.definition.specs.Begin.{crossed, bounds, rows_are, round_from, read_from}
 use Rattle.definition.specs.Bounds.{fix, tighten_upper, tighten_lower}
 use Rattle.definition.specs.Singles.{singleton_int}
 use Rattle.definition.specs.Forcing.{corner}

@@ -1,15 +1,14 @@
 -- The whole of presolve: how it starts, and what a property of the state and one of what is out say of the answer.
-use Prim.Native.Nat.{ℕ, suc, ◌+◌, ◌≤◌}
+use Prim.Native.Nat.{ℕ, suc, ◌≤◌}
 use Rattle.std.specs.Prelude.{◌≡◌, Bool, true, false, length, set, Float}
 use mathlib.Core.List.{List, [], ◌∷◌, ◌++◌}
-use Rattle.std.proofs.Math.Option.{none}
 use Rattle.tolerances.specs.Tol.{at}
 use Rattle.definition.specs.declared.Counts.{Counts}
 use Rattle.definition.specs.Params.{max_waves}
 use Rattle.definition.specs.Model.{Model, is_int, Row, with_alive, as_written, counts, passed, Reduced, Answer, infeasible, done}
 use Rattle.definition.specs.Work.{Work, with_counts, trivial}
 use Rattle.definition.specs.Begin.{rounded_lower, rounded_upper, Bounds, cross, bounds, Rows, false_row, rows_are}
-use Rattle.definition.specs.Emit.{Out, no_out, fails, final, differs}
+use Rattle.definition.specs.Emit.{Out, no_out, final, differs}
 use Rattle.rows_kept.specs.Kept.{Kept}
 use Rattle.rows_kept.specs.Outs.{Goes}
 

@@ -1,16 +1,15 @@
 -- The coefficient step meets no zero coefficient, if one wave at least is allowed: the first wave folds every live row, and no rewrite makes a zero.
-use Prim.Native.Nat.{ℕ, zero, ◌+◌, ◌-◌, ◌≤◌, ◌<◌}
+use Prim.Native.Nat.{ℕ, ◌+◌, ◌-◌, ◌≤◌, ◌<◌}
 use Rattle.std.specs.Prelude.{◌≡◌, ◌⊎◌, true, false, get_or}
 use mathlib.Core.List.{List}
 use Rattle.std.proofs.Math.ListN.{length}
 use Rattle.std.specs.Float.Ieee.{eq}
 use Rattle.floats.specs.Num.{0f}
-use Rattle.tolerances.specs.Tol.{term}
 use Rattle.definition.specs.declared.Counts.{Counts}
 use Rattle.definition.specs.Params.{max_waves}
 use Rattle.definition.specs.Model.{Model, Row}
 use Rattle.definition.specs.Work.{Work, Step, stop, next, no_row, no_term, has}
-use Rattle.definition.specs.Wave.{wave, waves}
+use Rattle.definition.specs.Wave.{waves}
 use Rattle.definition.specs.Rounds.{after_waves}
 use Rattle.rows_kept.specs.AllRows.{AllRows}
 

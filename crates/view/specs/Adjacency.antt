@@ -1,5 +1,5 @@
 -- The rows of each variable, as the lent slice `adj` has them: where each variable's rows start, for the variables and one more, and then the rows.
-use Rattle.std.specs.Prelude.{ℕ, zero, suc, ◌+◌, ◌-◌, ◌≤◌, ◌<◌, ◌≡◌, refl, Bool, true, false, List, [], ◌∷◌, length, get_or}
+use Rattle.std.specs.Prelude.{ℕ, zero, suc, ◌+◌, ◌≤◌, ◌<◌, ◌≡◌, refl, Bool, true, false, List, [], ◌∷◌, length, get_or}
 use Rattle.std.proofs.Common.{arith, add-one, ap, sym, ◌∙◌, subst}
 use Rattle.std.proofs.Math.Seq.{slice}
 use Rattle.floats.specs.Num.{choose}

@@ -1,5 +1,5 @@
 -- Bounds and counts: what one store to a bound or a count does to the state.
-use Rattle.std.specs.Prelude.{ℕ, ◌+◌, ◌-◌, ◌%◌, ◌^◌, ◌≡◌, List, length, get_or, set, Float, Ok, Err}
+use Rattle.std.specs.Prelude.{ℕ, ◌+◌, ◌%◌, ◌^◌, ◌≡◌, List, length, get_or, set, Float, Ok, Err}
 use Rattle.std.proofs.Common.{arith, ap, sym, ◌∙◌, subst, length-set, get_or-set_same}
 use Rattle.std.specs.Float.{nan}
 use Rattle.tolerances.specs.Tol.{at}

@@ -1,5 +1,5 @@
 -- One row changes: what shows the others still shows them, since spans do not overlap.
-use Rattle.std.specs.Prelude.{ℕ, zero, suc, ◌-◌, ◌<◌, ◌≡◌, refl, ◌≢◌, ◌⊎◌, true, List, length, get_or, set}
+use Rattle.std.specs.Prelude.{ℕ, zero, suc, ◌<◌, ◌≡◌, refl, ◌≢◌, ◌⊎◌, true, List, length, get_or, set}
 use Rattle.std.proofs.Common.{arith, ap, sym, ◌∙◌, inl, inr, length-set, get_or-set_same, get_or-set_other}
 use Rattle.definition.specs.Model.{Model, Row}
 use Rattle.definition.specs.Work.{Work, with_row, no_row}

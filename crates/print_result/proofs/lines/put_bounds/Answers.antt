@@ -1,5 +1,5 @@
 -- One line more, until a list ends.
-use Rattle.std.proofs.Common.{arith, subst, sym, ap, ◌∙◌, ℕ, List, [], ◌∷◌, ◌+◌, ◌<◌, drop, length, length-drop, drop-cons, get_or, get_or-drop, ◌≡◌, refl, ⊎_elim}
+use Rattle.std.proofs.Common.{arith, subst, sym, ap, ◌∙◌, ℕ, List, ◌∷◌, ◌+◌, ◌<◌, drop, length, length-drop, drop-cons, get_or, get_or-drop, ◌≡◌, refl, ⊎_elim}
 use Prim.Native.Nat.{min, suc}
 use Rattle.std.specs.Float.{nan}
 use Rattle.print_result.specs.Text.{from_to, each, bound_line, bound_at, bound_lines}

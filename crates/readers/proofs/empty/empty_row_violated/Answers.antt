@@ -1,7 +1,6 @@
 -- `empty_row_violated`, by whether the row is trivially true.
 use native.Mathlib.Omega.{arith}
 use Rattle.readers.specs.Empty.{span_ready, empty_true, empty_judged}
-use borrow.Author.Rules.{rules}
 use Rattle.readers.proofs.empty.empty_row_violated.Goals as goal
 
 pub verdict-requires : goal.verdict-requires

@@ -1,5 +1,5 @@
 -- `fixed_sum`: each turn takes the next term of the row, and at the end no term is left.
-use Rattle.std.proofs.Common.{◌≡◌, ◌+◌, ◌-◌, ◌<◌, ◌≤◌, ℕ, List, [], ◌∷◌, take, drop, min, length, get_or, get_or-take, get_or-drop, length-append, length-take, length-drop, sym, subst, ap, ◌∙◌, arith}
+use Rattle.std.proofs.Common.{◌≡◌, ◌+◌, ◌-◌, ◌<◌, ◌≤◌, ℕ, List, [], ◌∷◌, take, drop, min, length, get_or, get_or-take, get_or-drop, length-append, length-take, length-drop, subst, ap, ◌∙◌, arith}
 use Rattle.std.proofs.lemmas.Slice.Zip.{zip_turn, zip_end}
 use Rattle.std.specs.Float.{Float, nan}
 use Rattle.space.specs.declared.Shape.{Shape}
