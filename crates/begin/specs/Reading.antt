@@ -20,7 +20,7 @@ use Rattle.definition.specs.declared.Rows as lent
 use Rattle.definition.specs.Model.{Model, from, upto, nnz, op_of, rhs_of, Row, with_alive, as_written, counts}
 use Rattle.definition.specs.Work.{no_row}
 use Rattle.definition.specs.Begin.{Rows, false_row, rows_are, add_row, read_row, read_from}
-use Rattle.space.specs.declared.Shape.{Shape}
+use Rattle.space.specs.declared.Context.{Context}
 use Rattle.space.specs.Store.{Floats, Numbers, numbers_of, HoldsN, put_queued, put_dropped, put_tightened, put_fixed, put_rewrote, put_passes, put_alive, put_dirty, put_coeff_dirty, put_queue}
 use Rattle.space.specs.Blocks.{queued_length, dropped_length, tightened_length, fixed_length, rewrote_length, passes_length, dirty_length, coeff_dirty_length, queue_length, alive_length}
 use Rattle.view.specs.Call.{Call}
@@ -46,7 +46,7 @@ abbrev pub joined : ℕ → Numbers → Numbers
 joined r n = put_queued 0 (get_or n.queued 0 0 + 1) (put_queue (get_or n.queued 0 0) r (put_coeff_dirty r 1 (put_dirty r 1 n)))
 
 -- the blocks are as long as they are
-pub record RowsLong (s : Shape) (n : Numbers) : Type 0 where
+pub record RowsLong (s : Context) (n : Numbers) : Type 0 where
   pub queued : length n.queued ≡ 1
   pub dropped : length n.dropped ≡ 1
   pub tightened : length n.tightened ≡ 1
@@ -59,7 +59,7 @@ pub record RowsLong (s : Shape) (n : Numbers) : Type 0 where
   pub alive : length n.alive ≡ s.rows
 
 -- n is cleared
-pub record Cleared (s : Shape) (n : Numbers) : Type 0 where
+pub record Cleared (s : Context) (n : Numbers) : Type 0 where
   pub before : Numbers
   pub long : RowsLong s before
   pub is : n ≡ cleared before
@@ -110,7 +110,7 @@ module _ (rows : List Row) (x : Row) {r : ℕ} (e : length rows ≡ r) (P : ℕ 
       go (inr q) = let l : i < r = omega arith in rw (get_or-append rows (x ∷ []) no_row i (omega arith)) (h i l)
 
 -- ---- one row more
-module _ {M : Model} {s : Shape} {r : ℕ} {f : Floats} {n : Numbers} {rows : List Row} {queue : List ℕ} {dirty : List Bool} {drops : ℕ} (c : Call M s)
+module _ {M : Model} {s : Context} {r : ℕ} {f : Floats} {n : Numbers} {rows : List Row} {queue : List ℕ} {dirty : List Bool} {drops : ℕ} (c : Call M s)
     (h : Front M r f n rows queue dirty drops) (p : r < s.rows) (b : RowsLong s n) where
   front_skip : {n' : Numbers} → n' ≡ skipped r n → Front M (suc r) f n' (rows ++ (with_alive false (as_written M r) ∷ [])) queue (dirty ++ (false ∷ [])) (suc drops)
   front_skip e =
@@ -178,7 +178,7 @@ pub data RowsShown (M : Model) (r : ℕ) (f : Floats) (n : Numbers) : Outcome �
   shown : {rows : List Row} {queue : List ℕ} {dirty : List Bool} {drops : ℕ} → Front M r f n rows queue dirty drops → RowsShown M r f n (Ok tt) (rows_are rows queue dirty drops)
 
 -- no row is read yet
-no_rows : {M : Model} {s : Shape} {f : Floats} {n n' : Numbers} → RowsLong s n → n' ≡ cleared n → RowsShown M 0 f n' (Ok tt) (rows_are [] [] [] 0)
+no_rows : {M : Model} {s : Context} {f : Floats} {n n' : Numbers} → RowsLong s n → n' ≡ cleared n → RowsShown M 0 f n' (Ok tt) (rows_are [] [] [] 0)
 unfolding marked
 no_rows {n = n} b e =
     let z : get_or (set n.queued 0 0) 0 0 ≡ 0 = get_or-set_same n.queued 0 0 0 (omega (arith, b.queued)) in
@@ -220,20 +220,20 @@ then_bounds : {f f₁ f₂ : Floats} → SameBounds f f₁ → SameBounds f₁ f
 then_bounds a b = record { wlo = b.wlo ∙ a.wlo; whi = b.whi ∙ a.whi; elo = b.elo ∙ a.elo; ehi = b.ehi ∙ a.ehi }
 
 -- row r is read
-pub record ReadsOne (P : Model → Type 0) (s : Shape) (r : ℕ) (f : Floats) (n : Numbers) (f' : Floats) (n' : Numbers) (z : Outcome) : Type 0 where
+pub record ReadsOne (P : Model → Type 0) (s : Context) (r : ℕ) (f : Floats) (n : Numbers) (f' : Floats) (n' : Numbers) (z : Outcome) : Type 0 where
   pub does : (M : Model) (x : Rows) → P M → Call M s → RowsShown M r f n (Ok tt) x → RowsShown M (suc r) f' n' z (read_row M r x)
   pub bounds : (M : Model) → P M → Call M s → SameBounds f f'
 
 -- a row's verdict, by the slices of the call
-abbrev pub verdict_at : Shape → List ℕ → List ℕ → List Float → ℕ → Option Bool
+abbrev pub verdict_at : Context → List ℕ → List ℕ → List Float → ℕ → Option Bool
 verdict_at s ss os bs r = trivial_verdict s.feas (get_or os r 0) (get_or ss (r + 1) 0 - get_or ss r 0) (at bs r)
 
-pub verdict_is : {ss os : List ℕ} {bs : List Float} {s : Shape} (r : ℕ) (M : Model) → M.starts ≡ ss → M.cmp ≡ os → M.rhs ≡ bs → Call M s
+pub verdict_is : {ss os : List ℕ} {bs : List Float} {s : Context} (r : ℕ) (M : Model) → M.starts ≡ ss → M.cmp ≡ os → M.rhs ≡ bs → Call M s
     → trivial_verdict M.feas (op_of M r) (nnz M r) (rhs_of M r) ≡ verdict_at s ss os bs r
 unfolding op_of rhs_of nnz from upto
 verdict_is r M es eo eb c = rw (es, eo, eb, ← c.feas)
 
-module _ {rows : lent.Rows} {s : Shape} {r : ℕ} where
+module _ {rows : lent.Rows} {s : Context} {r : ℕ} where
   module _ {f : Floats} {n : Numbers} (p : r < s.rows) (b : RowsLong s n) {z : std.Option Bool} (t : option_of z ≡ verdict_at s rows.starts.now rows.cmp.now rows.rhs.now r) where
     pub read_skip : {n' : Numbers} → z ≡ Some true → n' ≡ skipped r n → ReadsOne (Written rows) s r f n f n' (Ok tt)
     unfolding read_row add_row
@@ -271,13 +271,13 @@ pub record Sofar (M : Model) (r : ℕ) (f : Floats) (n : Numbers) : Type 0 where
   pub rest : read_from M (length M.rhs - r) r got ≡ all_rows M
   pub shown : RowsShown M r f n (Ok tt) got
 
-pub record ReadInv (P : Model → Type 0) (s : Shape) (r : ℕ) (f₀ : Floats) (f : Floats) (n : Numbers) : Type 0 where
+pub record ReadInv (P : Model → Type 0) (s : Context) (r : ℕ) (f₀ : Floats) (f : Floats) (n : Numbers) : Type 0 where
   pub upto : r ≤ s.rows
   pub reads : (M : Model) → P M → Call M s → Sofar M r f n
   pub bounds : (M : Model) → P M → Call M s → SameBounds f₀ f
 
 -- all rows: one fails, and the counts are the definition's; or the slices show all, and the bounds are what they were
-pub record RowsRead (P : Model → Type 0) (s : Shape) (f : Floats) (f' : Floats) (n' : Numbers) (z : Outcome) : Type 0 where
+pub record RowsRead (P : Model → Type 0) (s : Context) (f : Floats) (f' : Floats) (n' : Numbers) (z : Outcome) : Type 0 where
   pub reads : (M : Model) → P M → Call M s → RowsShown M (length M.rhs) f' n' z (all_rows M)
   pub bounds : (M : Model) → P M → Call M s → SameBounds f f'
 
@@ -293,7 +293,7 @@ read_one M n r x p = let e : n - r ≡ suc (n - suc r) = omega arith in rw e
 stays : {M : Model} {r q : ℕ} {f : Floats} {n : Numbers} {u : Infeasible} {x : Rows} (m : ℕ) → RowsShown M r f n (Err u) x → RowsShown M q f n (Err u) (read_from M m r x)
 stays {M} {r} m (failed {k} h) = rw (read_false M m r k) (failed h)
 
-module _ {P : Model → Type 0} {s : Shape} where
+module _ {P : Model → Type 0} {s : Context} where
   pub read_start : {f : Floats} {n : Numbers} → Cleared s n → ReadInv P s 0 f f n
   read_start z =
       record {
@@ -345,7 +345,7 @@ module _ {P : Model → Type 0} {s : Shape} where
           bounds = i.bounds;
         }
 
-pub rows_long : {s : Shape} (l : List ℕ) → HoldsN s l → RowsLong s (numbers_of s l)
+pub rows_long : {s : Context} (l : List ℕ) → HoldsN s l → RowsLong s (numbers_of s l)
 rows_long {s} l h =
     record {
       queued = queued_length s l h;
@@ -360,16 +360,16 @@ rows_long {s} l h =
       alive = alive_length s l h;
     }
 
-pub cleared_now : {s : Shape} (l : List ℕ) {n : Numbers} → HoldsN s l → n ≡ cleared (numbers_of s l) → Cleared s n
+pub cleared_now : {s : Context} (l : List ℕ) {n : Numbers} → HoldsN s l → n ≡ cleared (numbers_of s l) → Cleared s n
 cleared_now l h e = record { before = _; long = rows_long l h; is = e }
 
 -- there is room for row r once it is written
-pub queue_room : {P : Model → Type 0} {s : Shape} {r : ℕ} {f f₁ : Floats} {n n₁ : Numbers} {X : Model → Row} → Given P s → Writes P s r f n f₁ n₁ X
+pub queue_room : {P : Model → Type 0} {s : Context} {r : ℕ} {f f₁ : Floats} {n n₁ : Numbers} {X : Model → Row} → Given P s → Writes P s r f n f₁ n₁ X
     → r < s.rows → get_or n.queued 0 0 ≤ r → get_or n₁.queued 0 0 < s.rows
 queue_room G h p q = omega (arith, p, q, ap (λ (l : List ℕ). get_or l 0 0) (h.does G.model G.known G.call).queued)
 
 -- the queue's room in a turn
-pub turn_room : {P : Model → Type 0} {s : Shape} {r : ℕ} {f₀ f : Floats} {n : Numbers} → Given P s → ReadInv P s r f₀ f n → get_or n.queued 0 0 ≤ r
+pub turn_room : {P : Model → Type 0} {s : Context} {r : ℕ} {f₀ f : Floats} {n : Numbers} → Given P s → ReadInv P s r f₀ f n → get_or n.queued 0 0 ≤ r
 turn_room G i = read_room i G.model G.known G.call
 
 -- ---- the stores, one after the other

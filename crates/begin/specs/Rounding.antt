@@ -13,7 +13,7 @@ use Rattle.tolerances.specs.Tol.{at}
 use Rattle.definition.specs.declared.Input.{Input}
 use Rattle.definition.specs.Model.{Model, is_int}
 use Rattle.definition.specs.Begin.{Bounds, cross, bounds, rounded_lower, rounded_upper, round_var, round_from}
-use Rattle.space.specs.declared.Shape.{Shape}
+use Rattle.space.specs.declared.Context.{Context}
 use Rattle.space.specs.Store.{Floats, floats_of, HoldsF, put_wlo, put_whi, put_elo, put_ehi}
 use Rattle.space.specs.Blocks.{wlo_length, whi_length, elo_length, ehi_length}
 use Rattle.view.specs.Call.{Call}
@@ -31,7 +31,7 @@ pub record Limits (x : Input) (M : Model) : Type 0 where
 abbrev pub put_bounds : ℕ → Float → Float → Floats → Floats
 put_bounds v l h f = put_ehi v h (put_elo v l (put_whi v h (put_wlo v l f)))
 
-pub record VarRounded (ds : List ℕ) (s : Shape) (tol : Float) (v : ℕ) (l h : Float) (f f' : Floats) (z : Bool) : Type 0 where
+pub record VarRounded (ds : List ℕ) (s : Context) (tol : Float) (v : ℕ) (l h : Float) (f f' : Floats) (z : Bool) : Type 0 where
   pub low : Float
   pub high : Float
   pub is : (M : Model) (a b : List Float) → Domains ds M → M.int_tol ≡ tol → Call M s → at a v ≡ l → at b v ≡ h → round_var M v (bounds a b) ≡ choose z (bounds (set a v low) (set b v high)) cross
@@ -46,7 +46,7 @@ round_real : (M : Model) (v : ℕ) (a b : List Float) → is_int M v ≡ false �
 unfolding round_var
 round_real M v a b i = no _ _ i
 
-module _ {ds : List ℕ} {s : Shape} {tol : Float} {v : ℕ} {l h : Float} {f : Floats} {zi : Bool} (I : ReadsM (Domains ds) s zi (λ M. is_int M v)) where
+module _ {ds : List ℕ} {s : Context} {tol : Float} {v : ℕ} {l h : Float} {f : Floats} {zi : Bool} (I : ReadsM (Domains ds) s zi (λ M. is_int M v)) where
   pub var_cross : {lo hi : Float} → zi ≡ true → lo ≡ rounded_lower tol l → hi ≡ rounded_upper tol h → gt lo hi ≡ true → VarRounded ds s tol v l h f f false
   unfolding choose
   var_cross {lo} {hi} i el eh t =
@@ -107,32 +107,32 @@ round_one : (M : Model) (n v : ℕ) (b : Bounds) → v < n → round_from M (n -
 unfolding round_from
 round_one M n v b p = let e : n - v ≡ suc (n - suc v) = omega arith in rw e
 
-pub record RoundInv (x : Input) (s : Shape) (v : ℕ) (f : Floats) : Type 0 where
+pub record RoundInv (x : Input) (s : Context) (v : ℕ) (f : Floats) : Type 0 where
   pub lows : take v f.elo ≡ take v f.wlo
   pub highs : take v f.ehi ≡ take v f.whi
   pub rest : (M : Model) → Limits x M → Call M s
       → round_from M (s.vars - v) v (bounds (joined v f.wlo x.lower.now) (joined v f.whi x.upper.now)) ≡ round_from M s.vars 0 (bounds x.lower.now x.upper.now)
 
 -- all variables: false where some integer bounds cross, else the four blocks are the definition's bounds
-pub record Rounded (x : Input) (s : Shape) (f : Floats) (z : Bool) : Type 0 where
+pub record Rounded (x : Input) (s : Context) (f : Floats) (z : Bool) : Type 0 where
   pub is : (M : Model) → Limits x M → Call M s → round_from M (length M.lower) 0 (bounds M.lower M.upper) ≡ choose z (bounds f.wlo f.whi) cross
   pub elo : z ≡ true → f.elo ≡ f.wlo
   pub ehi : z ≡ true → f.ehi ≡ f.whi
 
-pub record FourLong (s : Shape) (f : Floats) : Type 0 where
+pub record FourLong (s : Context) (f : Floats) : Type 0 where
   pub wlo : length f.wlo ≡ s.vars
   pub whi : length f.whi ≡ s.vars
   pub elo : length f.elo ≡ s.vars
   pub ehi : length f.ehi ≡ s.vars
 
-whole : {x : Input} {s : Shape} (M : Model) → Limits x M → Call M s
+whole : {x : Input} {s : Context} (M : Model) → Limits x M → Call M s
     → round_from M (length M.lower) 0 (bounds M.lower M.upper) ≡ round_from M s.vars 0 (bounds x.lower.now x.upper.now)
 whole M k c = rw (← c.vars, k.lower, k.upper)
 
-pub round_start : {x : Input} {s : Shape} {f : Floats} → RoundInv x s 0 f
+pub round_start : {x : Input} {s : Context} {f : Floats} → RoundInv x s 0 f
 round_start {s = s} = let z : s.vars - 0 ≡ s.vars = omega arith in record { lows = refl; highs = refl; rest = λ M k c. rw z }
 
-module _ {x : Input} {s : Shape} {v : ℕ} {f : Floats} (i : RoundInv x s v f) (b : FourLong s f) (el : length x.lower.now ≡ s.vars) (eh : length x.upper.now ≡ s.vars) where
+module _ {x : Input} {s : Context} {v : ℕ} {f : Floats} (i : RoundInv x s v f) (b : FourLong s f) (el : length x.lower.now ≡ s.vars) (eh : length x.upper.now ≡ s.vars) where
   abbrev ls : List Float
   ls = x.lower.now
 
@@ -184,5 +184,5 @@ module _ {x : Input} {s : Shape} {v : ℕ} {f : Floats} (i : RoundInv x s v f) (
         ehi = λ t. sym (take_all v f.ehi (omega (arith, q, b.ehi))) ∙ i.highs ∙ take_all v f.whi (omega (arith, q, b.whi));
       }
 
-pub four_long : {s : Shape} (l : List Float) → HoldsF s l → FourLong s (floats_of s l)
+pub four_long : {s : Context} (l : List Float) → HoldsF s l → FourLong s (floats_of s l)
 four_long {s} l h = record { wlo = wlo_length s l h; whi = whi_length s l h; elo = elo_length s l h; ehi = ehi_length s l h }

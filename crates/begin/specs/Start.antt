@@ -9,7 +9,7 @@ use Rattle.definition.specs.Work.{Work}
 use Rattle.definition.specs.Begin.{crossed, cross, bounds, Rows, round_from}
 use Rattle.definition.specs.Rounds.{rounds}
 use Rattle.definition.specs.Presolve.{finish, start, after_rounding, presolve}
-use Rattle.space.specs.declared.Shape.{Shape}
+use Rattle.space.specs.declared.Context.{Context}
 use Rattle.space.specs.Store.{Floats, Numbers}
 use Rattle.view.specs.Call.{Call}
 use Rattle.view.specs.Shows.{is_one, Shows, Counted, tally_of, Outcome}
@@ -26,7 +26,7 @@ use Rattle.begin.specs.Reading.{RowsLong, Cleared, Front, RowsShown, failed, sho
 abbrev pub begun : List Float → List Float → List Row → List ℕ → List Bool → ℕ → Work
 begun ls hs rows queue dirty k = record { wlo = ls; whi = hs; elo = ls; ehi = hs; rows = rows; dirty = dirty; coeff_dirty = dirty; queue = queue; counts = counts k 0 0 0 0 }
 
-module _ {M : Model} {s : Shape} {f : Floats} {n : Numbers} {rows : List Row} {queue : List ℕ} {dirty : List Bool} {drops : ℕ} (c : Call M s)
+module _ {M : Model} {s : Context} {f : Floats} {n : Numbers} {rows : List Row} {queue : List ℕ} {dirty : List Bool} {drops : ℕ} (c : Call M s)
     (h : Front M (length M.rhs) f n rows queue dirty drops) where
   pub shows_begun : {ls hs : List Float} → RowsLong s n → f.wlo ≡ ls → f.whi ≡ hs → f.elo ≡ ls → f.ehi ≡ hs → Shows M f n n.wave (begun ls hs rows queue dirty drops)
   shows_begun b el eh gl gh =
@@ -70,12 +70,12 @@ pub record Handed (x : Input) (M : Model) : Type 0 where
   pub limits : Limits x M
   pub written : Written x.rows M
 
-pub record Begins (P : Model → Type 0) (s : Shape) (f : Floats) (n : Numbers) (adj : List ℕ) (z : Outcome) : Type 0 where
+pub record Begins (P : Model → Type 0) (s : Context) (f : Floats) (n : Numbers) (adjacency : List ℕ) (z : Outcome) : Type 0 where
   pub does : (M : Model) → P M → Call M s → Begun M f n z (presolve M)
-  pub adjacency : z ≡ Ok tt → (M : Model) → P M → Call M s → Adjacency M adj
+  pub adjacency : z ≡ Ok tt → (M : Model) → P M → Call M s → Adjacency M adjacency
 
 -- ---- what the slices hold
-module _ {x : Input} {s : Shape} (G : Given (Handed x) s) where
+module _ {x : Input} {s : Context} (G : Given (Handed x) s) where
   pub lower_long : length x.lower.now ≡ s.vars
   lower_long = omega (arith, ap length G.known.limits.lower, G.call.vars)
 
@@ -102,7 +102,7 @@ pub goes_on : (M : Model) {ls hs : List Float} → crossed M.lower M.upper ≡ f
 unfolding presolve after_rounding
 goes_on M e r = no _ _ e ∙ rw r
 
-zeros : {s : Shape} {n : Numbers} → Cleared s n → Counted (tally_of n) (counts 0 0 0 0 0)
+zeros : {s : Context} {n : Numbers} → Cleared s n → Counted (tally_of n) (counts 0 0 0 0 0)
 zeros z =
     let n = z.before in
     rw (z.is)
@@ -117,8 +117,8 @@ zeros z =
 crossed_is : {x : Input} {y b : Bool} (M : Model) → y ≡ crossed x.lower.now x.upper.now → Limits x M → y ≡ b → crossed M.lower M.upper ≡ b
 crossed_is M ec k e = rw (k.lower, k.upper) (sym ec ∙ e)
 
-module _ {x : Input} {s : Shape} {n : Numbers} {adj : List ℕ} {y : Bool} (ec : y ≡ crossed x.lower.now x.upper.now) (b : Cleared s n) where
-  pub begin_crossed : {f : Floats} {u : Infeasible} → y ≡ true → Begins (Handed x) s f n adj (Err u)
+module _ {x : Input} {s : Context} {n : Numbers} {adjacency : List ℕ} {y : Bool} (ec : y ≡ crossed x.lower.now x.upper.now) (b : Cleared s n) where
+  pub begin_crossed : {f : Floats} {u : Infeasible} → y ≡ true → Begins (Handed x) s f n adjacency (Err u)
   begin_crossed e =
       record {
         does = λ M k c. rw (ends_crossed M (crossed_is M ec k.limits e)) (ended (zeros b));
@@ -126,15 +126,15 @@ module _ {x : Input} {s : Shape} {n : Numbers} {adj : List ℕ} {y : Bool} (ec :
       }
 
   module _ {f : Floats} {z : Bool} (e : y ≡ false) (r : Rounded x s f z) where
-    pub begin_cross : {f' : Floats} {u : Infeasible} → z ≡ false → Begins (Handed x) s f' n adj (Err u)
+    pub begin_cross : {f' : Floats} {u : Infeasible} → z ≡ false → Begins (Handed x) s f' n adjacency (Err u)
     begin_cross g =
         record {
           does = λ M k c. rw (ends_rounding M (crossed_is M ec k.limits e) (r.is M k.limits c ∙ no _ _ g)) (ended (zeros b));
           adjacency = λ q. absurd (let t : ◌≡◌ {A = ℕ} 0 1 = cc in omega arith);
         }
 
-    pub begin_rows : {f' : Floats} {n' : Numbers} {u : Outcome} → z ≡ true → FourLong s f → Adjoined (Written x.rows) s adj → RowsRead (Written x.rows) s f f' n' u → RowsLong s n'
-        → Begins (Handed x) s f' n' adj u
+    pub begin_rows : {f' : Floats} {n' : Numbers} {u : Outcome} → z ≡ true → FourLong s f → Adjoined (Written x.rows) s adjacency → RowsRead (Written x.rows) s f f' n' u → RowsLong s n'
+        → Begins (Handed x) s f' n' adjacency u
     unfolding start
     begin_rows {f'} {n'} {u} g l a t w =
         record {

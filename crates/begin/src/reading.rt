@@ -9,68 +9,68 @@ ghost use Rattle.begin.specs.Reading.{cleared, skipped, joined, Cleared, ReadsOn
 use definition::{Infeasible, Rows};
 use readers::verdict;
 use space::{
-    Alive, CoeffDirty, Dirty, Dropped, Fixed, Passes, Queue, Queued, Rewrote, Shape, Tightened,
+    Alive, CoeffDirty, Context, Dirty, Dropped, Fixed, Passes, Queue, Queued, Rewrote, Tightened,
 };
 
 // Nothing is queued, and nothing is counted.
-pub(crate) fn clear(m: &mut [usize], s: Shape)
-    requires { HoldsN s m.old }
-    ensures { numbers_of s m.new ≡ cleared (numbers_of s m.old) }
+pub(crate) fn clear(numbers: &mut [usize], cx: Context)
+    requires { HoldsN cx numbers.old }
+    ensures { numbers_of cx numbers.new ≡ cleared (numbers_of cx numbers.old) }
 {
-    space::put::<Queued>(m, s, 0, 0);
-    space::put::<Dropped>(m, s, 0, 0);
-    space::put::<Tightened>(m, s, 0, 0);
-    space::put::<Fixed>(m, s, 0, 0);
-    space::put::<Rewrote>(m, s, 0, 0);
-    space::put::<Passes>(m, s, 0, 0);
+    space::put::<Queued>(numbers, cx, 0, 0);
+    space::put::<Dropped>(numbers, cx, 0, 0);
+    space::put::<Tightened>(numbers, cx, 0, 0);
+    space::put::<Fixed>(numbers, cx, 0, 0);
+    space::put::<Rewrote>(numbers, cx, 0, 0);
+    space::put::<Passes>(numbers, cx, 0, 0);
 }
 
 // Row r is trivially true.
-fn skip_row(m: &mut [usize], s: Shape, r: usize)
-    requires { (r < s.rows) × HoldsN s m.old }
-    ensures { numbers_of s m.new ≡ skipped r (numbers_of s m.old) }
+fn skip_row(numbers: &mut [usize], cx: Context, r: usize)
+    requires { (r < cx.rows) × HoldsN cx numbers.old }
+    ensures { numbers_of cx numbers.new ≡ skipped r (numbers_of cx numbers.old) }
 {
-    space::put::<Alive>(m, s, r, 0);
-    space::put::<Dirty>(m, s, r, 0);
-    space::put::<CoeffDirty>(m, s, r, 0);
-    space::count::<Dropped>(m, s);
+    space::put::<Alive>(numbers, cx, r, 0);
+    space::put::<Dirty>(numbers, cx, r, 0);
+    space::put::<CoeffDirty>(numbers, cx, r, 0);
+    space::count::<Dropped>(numbers, cx);
 }
 
 // Row r joins the queue. Not bounds' `requeue`, which asks whether the row is in it: here no row is yet, and what
 // stood in the flags before is not looked at.
-fn queue_row(m: &mut [usize], s: Shape, r: usize)
-    requires { (r < s.rows) × (get_or (numbers_of s m.old).queued 0 0 < s.rows) × HoldsN s m.old }
-    ensures { numbers_of s m.new ≡ joined r (numbers_of s m.old) }
+fn queue_row(numbers: &mut [usize], cx: Context, r: usize)
+    requires { (r < cx.rows) × (get_or (numbers_of cx numbers.old).queued 0 0 < cx.rows) × HoldsN cx numbers.old }
+    ensures { numbers_of cx numbers.new ≡ joined r (numbers_of cx numbers.old) }
 {
-    let q = space::get::<Queued>(m, s, 0);
-    space::put::<Dirty>(m, s, r, 1);
-    space::put::<CoeffDirty>(m, s, r, 1);
-    space::put::<Queue>(m, s, q, r);
-    space::put::<Queued>(m, s, 0, q + 1);
+    let q = space::get::<Queued>(numbers, cx, 0);
+    space::put::<Dirty>(numbers, cx, r, 1);
+    space::put::<CoeffDirty>(numbers, cx, r, 1);
+    space::put::<Queue>(numbers, cx, q, r);
+    space::put::<Queued>(numbers, cx, 0, q + 1);
 }
 
 // = read_row
 fn read_row(
     rows: Rows,
-    w: &mut [f64],
-    m: &mut [usize],
-    s: Shape,
+    floats: &mut [f64],
+    numbers: &mut [usize],
+    cx: Context,
     r: usize,
 ) -> Result<(), Infeasible>
-    requires r_lt_rows { (r < s.rows) × (get_or (numbers_of s m.old).queued 0 0 ≤ r) × HoldsF s w.old × HoldsN s m.old }
-    requires given { Given (Written rows) s }
-    ensures { ReadsOne (Written rows.entry) s r
-        (floats_of s w.old) (numbers_of s m.old) (floats_of s w.new) (numbers_of s m.new) result }
+    requires r_lt_rows { (r < cx.rows) × (get_or (numbers_of cx numbers.old).queued 0 0 ≤ r) × HoldsF cx floats.old × HoldsN cx numbers.old }
+    requires given { Given (Written rows) cx }
+    ensures { ReadsOne (Written rows.entry) cx r
+        (floats_of cx floats.old) (numbers_of cx numbers.old) (floats_of cx floats.new) (numbers_of cx numbers.new) result }
 {
-    match verdict(rows, s, r) {
+    match verdict(rows, cx, r) {
         Some(true) => {
-            skip_row(m, s, r);
+            skip_row(numbers, cx, r);
             Ok(())
         }
         Some(false) => Err(Infeasible),
         None => {
-            folds::as_written(rows, w, m, s, r);
-            queue_row(m, s, r);
+            folds::as_written(rows, floats, numbers, cx, r);
+            queue_row(numbers, cx, r);
             Ok(())
         }
     }
@@ -79,17 +79,17 @@ fn read_row(
 // = read_from. Like settle's `settle_rows` by chance: each is a loop over the rows, of another step.
 pub(crate) fn read_rows(
     rows: Rows,
-    w: &mut [f64],
-    m: &mut [usize],
-    s: Shape,
+    floats: &mut [f64],
+    numbers: &mut [usize],
+    cx: Context,
 ) -> Result<(), Infeasible>
-    requires holds_f { HoldsF s w.old × HoldsN s m.old × Cleared s (numbers_of s m.old) }
-    requires given { Given (Written rows) s }
-    ensures { RowsRead (Written rows.entry) s
-        (floats_of s w.old) (floats_of s w.new) (numbers_of s m.new) result }
+    requires holds_f { HoldsF cx floats.old × HoldsN cx numbers.old × Cleared cx (numbers_of cx numbers.old) }
+    requires given { Given (Written rows) cx }
+    ensures { RowsRead (Written rows.entry) cx
+        (floats_of cx floats.old) (floats_of cx floats.new) (numbers_of cx numbers.new) result }
 {
     for r in 0..s.rows {
-        read_row(rows, w, m, s, r)?;
+        read_row(rows, floats, numbers, cx, r)?;
     }
     Ok(())
 }

@@ -6,47 +6,47 @@ ghost use Rattle.space.specs.Store.{floats_of, HoldsF};
 ghost use Rattle.begin.specs.Rounding.{put_bounds, VarRounded, Rounded};
 
 use definition::{Infeasible, Input};
-use space::{Ehi, Elo, Shape, Whi, Wlo};
+use space::{Context, Ehi, Elo, Whi, Wlo};
 
 // The working and the emitted bounds of v.
-fn put_bounds(w: &mut [f64], s: Shape, v: usize, l: f64, h: f64)
-    requires { (v < s.vars) × HoldsF s w.old }
-    ensures { floats_of s w.new ≡ put_bounds v l h (floats_of s w.old) }
+fn put_bounds(floats: &mut [f64], cx: Context, v: usize, l: f64, h: f64)
+    requires { (v < cx.vars) × HoldsF cx floats.old }
+    ensures { floats_of cx floats.new ≡ put_bounds v l h (floats_of cx floats.old) }
 {
-    space::put::<Wlo>(w, s, v, l);
-    space::put::<Whi>(w, s, v, h);
-    space::put::<Elo>(w, s, v, l);
-    space::put::<Ehi>(w, s, v, h);
+    space::put::<Wlo>(floats, cx, v, l);
+    space::put::<Whi>(floats, cx, v, h);
+    space::put::<Elo>(floats, cx, v, l);
+    space::put::<Ehi>(floats, cx, v, h);
 }
 
 // = round_var: v's bounds as handed in may cross once rounded
-fn round_var(input: Input, w: &mut [f64], s: Shape, v: usize) -> Result<(), Infeasible>
-    requires { (v < s.vars) × (v < length input.lower.now) × (v < length input.upper.now) × (v < length input.domain.now) × HoldsF s w.old }
-    ensures { VarRounded input.entry.domain.now s input.entry.int_tol v (at input.entry.lower.now v) (at input.entry.upper.now v)
-        (floats_of s w.old) (floats_of s w.new) (is_ok result) }
+fn round_var(input: Input, floats: &mut [f64], cx: Context, v: usize) -> Result<(), Infeasible>
+    requires { (v < cx.vars) × (v < length input.lower.now) × (v < length input.upper.now) × (v < length input.domain.now) × HoldsF cx floats.old }
+    ensures { VarRounded input.entry.domain.now cx input.entry.int_tol v (at input.entry.lower.now v) (at input.entry.upper.now v)
+        (floats_of cx floats.old) (floats_of cx floats.new) (is_ok result) }
 {
     let l = input.lower[v];
     let h = input.upper[v];
-    if readers::is_int(input.domain, s, v) {
+    if readers::is_int(input.domain, cx, v) {
         let lo = formulas::rounded_lower(input.int_tol, l);
         let hi = formulas::rounded_upper(input.int_tol, h);
         if lo > hi {
             return Err(Infeasible);
         }
-        put_bounds(w, s, v, lo, hi);
+        put_bounds(floats, cx, v, lo, hi);
         return Ok(());
     }
-    put_bounds(w, s, v, l, h);
+    put_bounds(floats, cx, v, l, h);
     Ok(())
 }
 
 // = round_from
-pub(crate) fn round_vars(input: Input, w: &mut [f64], s: Shape) -> Result<(), Infeasible>
-    requires { (length input.lower.now ≡ s.vars) × (length input.upper.now ≡ s.vars) × (length input.domain.now ≡ s.vars) × HoldsF s w.old }
-    ensures { Rounded input.entry s (floats_of s w.new) (is_ok result) }
+pub(crate) fn round_vars(input: Input, floats: &mut [f64], cx: Context) -> Result<(), Infeasible>
+    requires { (length input.lower.now ≡ cx.vars) × (length input.upper.now ≡ cx.vars) × (length input.domain.now ≡ cx.vars) × HoldsF cx floats.old }
+    ensures { Rounded input.entry cx (floats_of cx floats.new) (is_ok result) }
 {
     for v in 0..s.vars {
-        round_var(input, w, s, v)?;
+        round_var(input, floats, cx, v)?;
     }
     Ok(())
 }

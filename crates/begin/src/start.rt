@@ -9,25 +9,25 @@ use crate::crossing::crossed;
 use crate::reading::{clear, read_rows};
 use crate::rounding::round_vars;
 use definition::{Infeasible, Input};
-use space::Shape;
+use space::Context;
 
 // = presolve before its rounds: it ends there, or the slices show the state that the rounds start from
 pub fn begin(
     input: Input,
-    adj: &mut [usize],
-    w: &mut [f64],
-    m: &mut [usize],
-    s: Shape,
+    adjacency: &mut [usize],
+    floats: &mut [f64],
+    numbers: &mut [usize],
+    cx: Context,
 ) -> Result<(), Infeasible>
-    requires holds_f { HoldsF s w.old × HoldsN s m.old × (s.vars + 1 + s.terms ≤ length adj.old) }
-    requires given { Given (Handed input) s }
-    ensures { Begins (Handed input.entry) s (floats_of s w.new) (numbers_of s m.new) adj.new result }
+    requires holds_f { HoldsF cx floats.old × HoldsN cx numbers.old × (cx.vars + 1 + cx.terms ≤ length adjacency.old) }
+    requires given { Given (Handed input) cx }
+    ensures { Begins (Handed input.entry) cx (floats_of cx floats.new) (numbers_of cx numbers.new) adjacency.new result }
 {
-    clear(m, s);
+    clear(numbers, cx);
     if crossed(input.lower, input.upper) {
         return Err(Infeasible);
     }
-    round_vars(input, w, s)?;
-    adjacency(input.rows, adj, s);
-    read_rows(input.rows, w, m, s)
+    round_vars(input, floats, cx)?;
+    adjacency(input.rows, adjacency, cx);
+    read_rows(input.rows, floats, numbers, cx)
 }

@@ -5,7 +5,7 @@ use Rattle.definition.specs.Model.{Model}
 use Rattle.definition.specs.Work.{Work, with_marks}
 use Rattle.definition.specs.Marks.{mark_row}
 use Rattle.definition.specs.Tighten.{queued}
-use Rattle.space.specs.declared.Shape.{Shape}
+use Rattle.space.specs.declared.Context.{Context}
 use Rattle.space.specs.Store.{Floats, Numbers, put_dirty, put_coeff_dirty, put_queue, put_queued}
 use Rattle.view.specs.Call.{Call}
 use Rattle.view.specs.Shows.{is_one, Shows}
@@ -48,7 +48,7 @@ inv_queued {M} {k} r w i =
 was : (n : Numbers) (r : ℕ) {n₁ : Numbers} {q : ℕ} → n₁ ≡ put_dirty r 1 n → q ≡ get_or n₁.queued 0 0 → q ≡ get_or n.queued 0 0
 was n r e₂ e₃ = e₃ ∙ ap (λ (z : Numbers). get_or z.queued 0 0) e₂
 
-module _ {s : Shape} {n : Numbers} {r : ℕ} {d : ℕ} (p : r < s.rows) (e₁ : d ≡ get_or n.dirty r 0) where
+module _ {s : Context} {n : Numbers} {r : ℕ} {d : ℕ} (p : r < s.rows) (e₁ : d ≡ get_or n.dirty r 0) where
   pub requeue_old : d ≡ 1 → ActsN Any s n n (λ M. queued r)
   requeue_old one =
       record {
@@ -117,10 +117,10 @@ inv_flagged b r w i =
       rows = i.rows;
     }
 
-pub flagged_keeps : {P : Model → Type 0} {s : Shape} (b : Bool) (r : ℕ) → Keeps P s (λ M. flagged b r)
+pub flagged_keeps : {P : Model → Type 0} {s : Context} (b : Bool) (r : ℕ) → Keeps P s (λ M. flagged b r)
 flagged_keeps b r = record { keeps = λ M k w p c i. inv_flagged b r w i }
 
-pub flagged_acts : {P : Model → Type 0} {s : Shape} {n n' : Numbers} {b : Bool} (r v : ℕ) → is_one v ≡ b → n' ≡ put_coeff_dirty r v n → ActsN P s n n' (λ M. flagged b r)
+pub flagged_acts : {P : Model → Type 0} {s : Context} {n n' : Numbers} {b : Bool} (r v : ℕ) → is_one v ≡ b → n' ≡ put_coeff_dirty r v n → ActsN P s n n' (λ M. flagged b r)
 flagged_acts {n = n} {b = b} r v t e =
     record {
       does = λ M f o k w p c h i.
@@ -146,7 +146,7 @@ mark_is : (r : ℕ) (w : Work) → queued r (flagged true r w) ≡ mark_row r w
 unfolding queued mark_row
 mark_is r w = refl
 
-module _ {P : Model → Type 0} {s : Shape} (r : ℕ) {n n₁ : Numbers} (e : n₁ ≡ put_coeff_dirty r 1 n) where
+module _ {P : Model → Type 0} {s : Context} (r : ℕ) {n n₁ : Numbers} (e : n₁ ≡ put_coeff_dirty r 1 n) where
   pub mark_ready : ReadyN P s n → ReadyN P s n₁
   mark_ready R = ready_next R (flagged_acts r 1 one_is e) (flagged_keeps true r)
 

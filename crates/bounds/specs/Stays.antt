@@ -12,7 +12,7 @@ use Rattle.definition.specs.Params.{params}
 use Rattle.definition.specs.Model.{Model, is_int}
 use Rattle.definition.specs.Work.{Work, Step, next, bound_tol}
 use Rattle.definition.specs.Bounds.{upper_int, upper_real, lower_int, lower_real, tighten_upper, tighten_lower}
-use Rattle.space.specs.declared.Shape.{Shape}
+use Rattle.space.specs.declared.Context.{Context}
 use Rattle.space.specs.Store.{Floats, Numbers}
 use Rattle.formulas.specs.Moves.{Move, by_move, upper_int_move, upper_real_move, lower_int_move, lower_real_move, upper_int_of, upper_real_of, lower_int_of, lower_real_of}
 use Rattle.formulas.specs.Stays.{upper_still, lower_still, UpperStays, LowerStays}
@@ -25,14 +25,14 @@ use Rattle.view.specs.Bounds.{wlo_is, whi_is, elo_is, ehi_is}
 use Rattle.bounds.specs.Moves.{int_code, int_is}
 
 -- the test: q is at or outside the bound that it would move
-unfoldable pub still_at : List ℕ → Shape → Floats → ℕ → Float → Bool → Bool
+unfoldable pub still_at : List ℕ → Context → Floats → ℕ → Float → Bool → Bool
 still_at domain s f v q above =
     choose above
     (upper_still (int_code s.mip (get_or domain v 0)) q (get_or f.ehi v nan) (get_or f.whi v nan))
     (lower_still (int_code s.mip (get_or domain v 0)) q (get_or f.elo v nan) (get_or f.wlo v nan))
 
 -- and what it is for
-pub record Stays (domain : List ℕ) (s : Shape) (f : Floats) (v : ℕ) (q : Float) (above : Bool) : Type 0 where
+pub record Stays (domain : List ℕ) (s : Context) (f : Floats) (v : ℕ) (q : Float) (above : Bool) : Type 0 where
   pub stays : (lists : Lists) (M : Model) (n : Numbers) (o : List ℕ) (w : Work) → lists.domain.now ≡ domain → Bounding lists M → Call M s → Shows M f n o w → (t : Float) → Held t
       → NotNeg t → choose above (tighten_upper M v q t w) (tighten_lower M v q t w) ≡ next w
 
@@ -63,7 +63,7 @@ module _ (M : Model) (v : ℕ) (q t : Float) (w : Work) where
     lower_moves true e = sym (lower_int_of M v w (ceil (q ⊖ t))) ∙ left_so _ _ _ e
     lower_moves false e = sym (lower_real_of M v w (q ⊖ t) p) ∙ left_so _ _ _ e
 
-module _ {domain : List ℕ} {s : Shape} {f : Floats} {v : ℕ} {q : Float} {int above : Bool} (ei : int ≡ int_code s.mip (get_or domain v 0)) where
+module _ {domain : List ℕ} {s : Context} {f : Floats} {v : ℕ} {q : Float} {int above : Bool} (ei : int ≡ int_code s.mip (get_or domain v 0)) where
   pub stays_above : {ehi whi : Float} → above ≡ true → ehi ≡ get_or f.ehi v nan → whi ≡ get_or f.whi v nan → UpperStays int q ehi whi → Stays domain s f v q above
   stays_above a eh wh u =
       record {
@@ -85,7 +85,7 @@ module _ {domain : List ℕ} {s : Shape} {f : Floats} {v : ℕ} {q : Float} {int
       }
 
 -- the test itself, by the side
-module _ (domain : List ℕ) (s : Shape) (f : Floats) (v : ℕ) (q : Float) {int above z : Bool} (ei : int ≡ int_code s.mip (get_or domain v 0)) where
+module _ (domain : List ℕ) (s : Context) (f : Floats) (v : ℕ) (q : Float) {int above z : Bool} (ei : int ≡ int_code s.mip (get_or domain v 0)) where
   pub still_above : {ehi whi : Float} → above ≡ true → ehi ≡ get_or f.ehi v nan → whi ≡ get_or f.whi v nan → z ≡ upper_still int q ehi whi → z ≡ still_at domain s f v q above
   unfolding still_at
   still_above a eh wh e = e ∙ rw (ei, eh, wh) (sym (yes _ _ a))

@@ -7,44 +7,44 @@ ghost use Rattle.view.specs.Acts.{ReadyN, ActsN, Any};
 ghost use Rattle.view.specs.Adjacency.{Adj};
 ghost use Rattle.bounds.specs.Flags.{FlagsKept};
 
-use space::{CoeffDirty, Dirty, Queue, Queued, Shape, get, put};
+use space::{CoeffDirty, Context, Dirty, Queue, Queued, get, put};
 
 // = queued: the row is queued where it is not queued already
-pub fn requeue(m: &mut [usize], s: Shape, r: usize)
-    requires r_lt_rows { (r < s.rows) × HoldsN s m.old }
-    requires ready_n { ReadyN Any s (numbers_of s m.old) }
-    ensures acts_n { ActsN Any s (numbers_of s m.old) (numbers_of s m.new) (λ M. queued r) }
-    ensures flags_kept { FlagsKept (numbers_of s m.old) (numbers_of s m.new) }
+pub fn requeue(numbers: &mut [usize], cx: Context, r: usize)
+    requires r_lt_rows { (r < cx.rows) × HoldsN cx numbers.old }
+    requires ready_n { ReadyN Any cx (numbers_of cx numbers.old) }
+    ensures acts_n { ActsN Any cx (numbers_of cx numbers.old) (numbers_of cx numbers.new) (λ M. queued r) }
+    ensures flags_kept { FlagsKept (numbers_of cx numbers.old) (numbers_of cx numbers.new) }
 {
-    if get::<Dirty>(m, s, r) == 1 {
+    if get::<Dirty>(numbers, cx, r) == 1 {
         return;
     }
-    put::<Dirty>(m, s, r, 1);
-    let q = get::<Queued>(m, s, 0);
-    put::<Queue>(m, s, q, r);
-    put::<Queued>(m, s, 0, q + 1);
+    put::<Dirty>(numbers, cx, r, 1);
+    let q = get::<Queued>(numbers, cx, 0);
+    put::<Queue>(numbers, cx, q, r);
+    put::<Queued>(numbers, cx, 0, q + 1);
 }
 
 // = mark_row: the coefficient step has to look at the row again, even where it is queued already
-fn mark_row(m: &mut [usize], s: Shape, r: usize)
-    requires r_lt_rows { (r < s.rows) × HoldsN s m.old }
-    requires ready_n { ReadyN Any s (numbers_of s m.old) }
-    ensures acts_n { ActsN Any s (numbers_of s m.old) (numbers_of s m.new) (λ M. mark_row r) }
-    ensures flags_kept { FlagsKept (numbers_of s m.old) (numbers_of s m.new) }
+fn mark_row(numbers: &mut [usize], cx: Context, r: usize)
+    requires r_lt_rows { (r < cx.rows) × HoldsN cx numbers.old }
+    requires ready_n { ReadyN Any cx (numbers_of cx numbers.old) }
+    ensures acts_n { ActsN Any cx (numbers_of cx numbers.old) (numbers_of cx numbers.new) (λ M. mark_row r) }
+    ensures flags_kept { FlagsKept (numbers_of cx numbers.old) (numbers_of cx numbers.new) }
 {
-    put::<CoeffDirty>(m, s, r, 1);
-    requeue(m, s, r);
+    put::<CoeffDirty>(numbers, cx, r, 1);
+    requeue(numbers, cx, r);
 }
 
-// = mark_var: the rows of v stand in adj after where each variable's rows start
-pub(crate) fn mark_var(adj: &[usize], m: &mut [usize], s: Shape, v: usize)
-    requires v_lt_vars { (v < s.vars) × HoldsN s m.old }
-    requires ready_n { ReadyN (Adj adj.now) s (numbers_of s m.old) }
-    ensures acts_n { ActsN (Adj adj.now) s (numbers_of s m.old) (numbers_of s m.new) (λ M. mark_var M v) }
-    ensures flags_kept { FlagsKept (numbers_of s m.old) (numbers_of s m.new) }
+// = mark_var: the rows of v stand in adjacency after where each variable's rows start
+pub(crate) fn mark_var(adjacency: &[usize], numbers: &mut [usize], cx: Context, v: usize)
+    requires v_lt_vars { (v < cx.vars) × HoldsN cx numbers.old }
+    requires ready_n { ReadyN (Adj adjacency.now) cx (numbers_of cx numbers.old) }
+    ensures acts_n { ActsN (Adj adjacency.now) cx (numbers_of cx numbers.old) (numbers_of cx numbers.new) (λ M. mark_var M v) }
+    ensures flags_kept { FlagsKept (numbers_of cx numbers.old) (numbers_of cx numbers.new) }
 {
-    let base = s.vars + 1;
-    for &r in &adj[base + adj[v]..base + adj[v + 1]] {
-        mark_row(m, s, r);
+    let base = cx.vars + 1;
+    for &r in &adjacency[base + adjacency[v]..base + adjacency[v + 1]] {
+        mark_row(numbers, cx, r);
     }
 }

@@ -5,7 +5,7 @@ use Rattle.std.specs.Float.{nan}
 use Rattle.tolerances.specs.Tol.{Term, term}
 use Rattle.definition.specs.Model.{Model}
 use Rattle.definition.specs.Work.{Work, no_term}
-use Rattle.space.specs.declared.Shape.{Shape}
+use Rattle.space.specs.declared.Context.{Context}
 use Rattle.space.specs.Store.{Floats, Numbers}
 use Rattle.view.specs.Call.{Call}
 use Rattle.view.specs.Shows.{Shows}
@@ -16,11 +16,11 @@ use Rattle.readers.specs.Reading.{row_of, Alive}
 use Rattle.readers.specs.RowAt.{row_at, row_ready, live_place, live_var}
 
 -- after k terms, with d gathered
-pub record Along {A : Type 0} (P : Model → Type 0) (s : Shape) (f : Floats) (n : Numbers) (r k : ℕ) (d : A) (G : Model → Work → A → List Term → A) (F : Model → Work → A) : Type 0 where
+pub record Along {A : Type 0} (P : Model → Type 0) (s : Context) (f : Floats) (n : Numbers) (r k : ℕ) (d : A) (G : Model → Work → A → List Term → A) (F : Model → Work → A) : Type 0 where
   pub upto : k ≤ get_or n.len r 0
   pub rest : (M : Model) (o : List ℕ) (j : ℕ) (w : Work) → P M → Call M s → Shows M f n o w → Inv M j w → G M w d (drop k (row_of w r).terms) ≡ F M w
 
-module _ {A : Type 0} {P : Model → Type 0} {s : Shape} {f : Floats} {n : Numbers} {r : ℕ} {G : Model → Work → A → List Term → A} {F : Model → Work → A} where
+module _ {A : Type 0} {P : Model → Type 0} {s : Context} {f : Floats} {n : Numbers} {r : ℕ} {G : Model → Work → A → List Term → A} {F : Model → Work → A} where
   pub along_start : {d : A} → ((M : Model) (w : Work) → G M w d (row_of w r).terms ≡ F M w) → Along P s f n r 0 d G F
   along_start e = record { upto = omega arith; rest = λ M o j w p c h i. e M w }
 
@@ -54,7 +54,7 @@ module _ {A : Type 0} {P : Model → Type 0} {s : Shape} {f : Floats} {n : Numbe
         }
 
 -- what the walk's readers ask for
-module _ {P : Model → Type 0} {s : Shape} {f : Floats} {n : Numbers} {ss : List ℕ} {r k l : ℕ} (R : Ready P s f n) (q : (M : Model) → P M → Spans ss M)
+module _ {P : Model → Type 0} {s : Context} {f : Floats} {n : Numbers} {ss : List ℕ} {r k l : ℕ} (R : Ready P s f n) (q : (M : Model) → P M → Spans ss M)
     (p : r < s.rows) (a : Alive n r) (el : l ≡ get_or n.len r 0) (kl : k < l) where
   pub along_place : get_or ss r 0 + k < s.terms
   along_place = live_place R q p a (omega (arith, el, kl))

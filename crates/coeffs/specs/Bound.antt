@@ -15,7 +15,7 @@ use Rattle.definition.specs.declared.Rows.{Rows}
 use Rattle.definition.specs.Model.{Model, from, written, op_of, rhs_of, Binding, coeff_in, or_else, coeff_of}
 use Rattle.definition.specs.Work.{Work}
 use Rattle.definition.specs.Bindings.{sum_coeffs, binding_sum, bound_with, rewritten_bound}
-use Rattle.space.specs.declared.Shape.{Shape}
+use Rattle.space.specs.declared.Context.{Context}
 use Rattle.space.specs.Store.{Floats, Numbers}
 use Rattle.view.specs.Shows.{is_one}
 use Rattle.view.specs.Lists.{yes, no, one_is, one_not}
@@ -47,7 +47,7 @@ sum_nil : (r : ℕ) (M : Model) (w : Work) (d : Float) → sum_from r M w d [] �
 unfolding sum_coeffs
 sum_nil r M w d = refl
 
-module _ {ss : List ℕ} {s : Shape} {f : Floats} {n : Numbers} (r : ℕ) where
+module _ {ss : List ℕ} {s : Context} {f : Floats} {n : Numbers} (r : ℕ) where
   pub sum_start : Over (Spans ss) s f n r 0 0f (sum_from r) (sum_all r)
   sum_start = over_start (λ M w. refl)
 
@@ -83,7 +83,7 @@ from_is : {ss : List ℕ} (M : Model) (r : ℕ) → M.starts ≡ ss → from M r
 unfolding from
 from_is M r e = ap (λ (l : List ℕ). get_or l r 0) e
 
-module _ {rows : Rows} {s : Shape} {f : Floats} {n : Numbers} (r : ℕ) (p : r < s.rows) (a : Alive n r) where
+module _ {rows : Rows} {s : Context} {f : Floats} {n : Numbers} (r : ℕ) (p : r < s.rows) (a : Alive n r) where
   pub bind_term : (d : CDouble) {k v : ℕ} {e z : CDouble} {x y : Float} → k < get_or n.binaries r 0 → v ≡ get_or n.binary (get_or rows.starts.now r 0 + k) 0
       → ReadsWritten rows.index.now rows.coeff.now (get_or rows.starts.now r 0) v x → e ≡ double.plus d (neg x) → Reads (Spans rows.starts.now) s f n y (λ M w. coeff_of (row_of w r) v)
       → z ≡ double.plus e y → Reads (Written rows) s f n z (λ M w. bind_step r M w (get_or n.binary (get_or rows.starts.now r 0 + k) 0) d)
@@ -98,7 +98,7 @@ module _ {rows : Rows} {s : Shape} {f : Floats} {n : Numbers} (r : ℕ) (p : r <
             (λ (m : Float). double.plus (double.plus d (neg x)) m) uy ∙ ap (λ (m : CDouble). double.plus m y) (sym ee) ∙ sym ez;
       }
 
-module _ {rows : Rows} {s : Shape} {f : Floats} {n : Numbers} (r : ℕ) (b : Float) where
+module _ {rows : Rows} {s : Context} {f : Floats} {n : Numbers} (r : ℕ) (b : Float) where
   pub bind_start : {d : CDouble} → d ≡ double.from b → Over (Written rows) s f n r 0 d (bind_from r) (bind_all r b)
   bind_start e = over_start (λ M w. ap (λ (x : CDouble). bind_from r M w x (binaries_of (row_of w r).binding)) e)
 
@@ -150,7 +150,7 @@ at_most_byte op = go (eqb op 1) (eqb op 2)
     go false true = refl
     go false false = refl
 
-module _ {rows : Rows} {s : Shape} {f : Floats} {n : Numbers} (r : ℕ) (p : r < s.rows) (a : Alive n r)
+module _ {rows : Rows} {s : Context} {f : Floats} {n : Numbers} (r : ℕ) (p : r < s.rows) (a : Alive n r)
     {l : ℕ} (el : l ≡ get_or n.binaries r 0) where
   pub bound_none : l ≡ 0 → Reads (Written rows) s f n (get_or rows.rhs.now r nan) (λ M w. rewritten_bound M (row_of w r) r)
   bound_none z = record { reads = λ M o j w q c h i. bound_plain M w r (unbound_is (row_shown c h p a).binding (sym el ∙ z)) (ap (λ (y : List Float). get_or y r nan) q.rhs) }

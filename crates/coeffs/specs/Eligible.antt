@@ -12,7 +12,7 @@ use Rattle.definition.specs.Tighten.{binary, rewrite_of, eligible}
 use Rattle.formulas.specs.declared.Limits.{Limits}
 use Rattle.formulas.specs.Bare.{bare, Has, ByParams}
 use Rattle.formulas.specs.Rewriting.{binary_at, binary_of, rewrite_at, rewrite_of_lem}
-use Rattle.space.specs.declared.Shape.{Shape}
+use Rattle.space.specs.declared.Context.{Context}
 use Rattle.space.specs.Store.{Floats, Numbers}
 use Rattle.view.specs.Call.{Call}
 use Rattle.view.specs.Shows.{Shows}
@@ -34,24 +34,24 @@ binaries_spans M k = record { starts = k.starts }
 pub binaries_domains : {ds ss : List ℕ} (M : Model) → Binaries ds ss M → Domains ds M
 binaries_domains M k = record { domain = k.domain }
 
-pub domain_in : {ds ss : List ℕ} {s : Shape} {f : Floats} {n : Numbers} {v : ℕ} → Ready (Binaries ds ss) s f n → v < s.vars → v < length ds
+pub domain_in : {ds ss : List ℕ} {s : Context} {f : Floats} {n : Numbers} {v : ℕ} → Ready (Binaries ds ss) s f n → v < s.vars → v < length ds
 domain_in R p = omega (arith, p, R.call.vars, R.call.domains, ap length R.known.domain)
 
 -- x is row r's four floats, in whatever state the floats show with the row alive
-pub record RowLimits (s : Shape) (f : Floats) (r : ℕ) (x : Limits) : Type 0 where
+pub record RowLimits (s : Context) (f : Floats) (r : ℕ) (x : Limits) : Type 0 where
   pub has : (M : Model) (n : Numbers) (o : List ℕ) (w : Work) → Call M s → Shows M f n o w → Alive n r → Has x (row_of w r)
 
-pub row_limits : {s : Shape} {f : Floats} {r terms : ℕ} {x : Limits} → ReadsLimits s f r terms x → RowLimits s f r x
+pub row_limits : {s : Context} {f : Floats} {r terms : ℕ} {x : Limits} → ReadsLimits s f r terms x → RowLimits s f r x
 row_limits L = record { has = L.has }
 
 -- ---- is_binary
-pub is_binary : {ds : List ℕ} {s : Shape} {f : Floats} (v : ℕ) {i b : Bool} {lo hi : Float} → Tells (Domains ds) i (λ M. is_int_domain M v)
+pub is_binary : {ds : List ℕ} {s : Context} {f : Floats} (v : ℕ) {i b : Bool} {lo hi : Float} → Tells (Domains ds) i (λ M. is_int_domain M v)
     → lo ≡ get_or f.elo v nan → hi ≡ get_or f.ehi v nan → b ≡ binary_at i lo hi
     → ReadsF (Domains ds) s f b (λ M w. binary M w v)
 is_binary v ti el eh eb = record { reads = λ M n o k w p c h j. sym (binary_of M w v) ∙ cc (ti.tells M p, elo_is v h el, ehi_is v h eh, eb) }
 
 -- ---- rewrite_term: of the variable v with the coefficient a, in a row with the limits x
-pub term_rewrite : {ds : List ℕ} {s : Shape} {f : Floats} (v : ℕ) (form : defs.Form) (nz : Float) (x : Limits) (act : Activity) (a : Float) {b : Bool}
+pub term_rewrite : {ds : List ℕ} {s : Context} {f : Floats} (v : ℕ) (form : defs.Form) (nz : Float) (x : Limits) (act : Activity) (a : Float) {b : Bool}
     {z : defs.Rewrite} → ReadsF (Domains ds) s f b (λ M w. binary M w v)
     → ByParams z (λ M. rewrite_at M b form nz (bare x) act a) → ReadsF (Domains ds) s f z (λ M w. rewrite_at M (binary M w v) form nz (bare x) act a)
 term_rewrite v form nz x act a rb t =
@@ -83,11 +83,11 @@ rewrites_le (defs.coeff_only a) = omega arith
 rewrites_le (defs.coeff_bound a b d) = omega arith
 
 -- after k terms, d of them eligible
-pub record Counting (ds ss : List ℕ) (s : Shape) (f : Floats) (n : Numbers) (form : defs.Form) (nz : Float) (act : Activity) (r k d : ℕ) : Type 0 where
+pub record Counting (ds ss : List ℕ) (s : Context) (f : Floats) (n : Numbers) (form : defs.Form) (nz : Float) (act : Activity) (r k d : ℕ) : Type 0 where
   pub few : d ≤ k
   pub along : Along (Binaries ds ss) s f n r k d (count_from form nz act r) (count_all form nz act r)
 
-module _ {ds ss : List ℕ} {s : Shape} {f : Floats} {n : Numbers} (form : defs.Form) (nz : Float) (act : Activity) (r : ℕ) where
+module _ {ds ss : List ℕ} {s : Context} {f : Floats} {n : Numbers} (form : defs.Form) (nz : Float) (act : Activity) (r : ℕ) where
   pub count_start : Counting ds ss s f n form nz act r 0 0
   count_start = record { few = omega arith; along = along_start (λ M w. refl) }
 

@@ -4,7 +4,7 @@ use Rattle.std.proofs.Common.{arith, add-one, ap, sym, ◌∙◌, drop_of_length
 use Rattle.std.proofs.Math.Option.{Option}
 use Rattle.definition.specs.Model.{Model, from, Binding}
 use Rattle.definition.specs.Work.{Work}
-use Rattle.space.specs.declared.Shape.{Shape}
+use Rattle.space.specs.declared.Context.{Context}
 use Rattle.space.specs.Store.{Floats, Numbers}
 use Rattle.view.specs.Call.{Call}
 use Rattle.view.specs.Shows.{Shows, Parts, BindingShown, unbound, is_bound}
@@ -35,11 +35,11 @@ unfolding from
 from_of M r e = ap (λ (l : List ℕ). get_or l r 0) e
 
 -- after k binaries, with d gathered
-pub record Over {A : Type 0} (P : Model → Type 0) (s : Shape) (f : Floats) (n : Numbers) (r k : ℕ) (d : A) (G : Model → Work → A → List ℕ → A) (F : Model → Work → A) : Type 0 where
+pub record Over {A : Type 0} (P : Model → Type 0) (s : Context) (f : Floats) (n : Numbers) (r k : ℕ) (d : A) (G : Model → Work → A → List ℕ → A) (F : Model → Work → A) : Type 0 where
   pub upto : k ≤ get_or n.binaries r 0
   pub rest : (M : Model) (o : List ℕ) (j : ℕ) (w : Work) → P M → Call M s → Shows M f n o w → Inv M j w → G M w d (drop k (binaries_of (row_of w r).binding)) ≡ F M w
 
-module _ {A : Type 0} {P : Model → Type 0} {s : Shape} {f : Floats} {n : Numbers} {r : ℕ} {G : Model → Work → A → List ℕ → A} {F : Model → Work → A} where
+module _ {A : Type 0} {P : Model → Type 0} {s : Context} {f : Floats} {n : Numbers} {r : ℕ} {G : Model → Work → A → List ℕ → A} {F : Model → Work → A} where
   pub over_start : {d : A} → ((M : Model) (w : Work) → G M w d (binaries_of (row_of w r).binding) ≡ F M w) → Over P s f n r 0 d G F
   over_start e = record { upto = omega arith; rest = λ M o j w p c h i. e M w }
 
@@ -69,7 +69,7 @@ module _ {A : Type 0} {P : Model → Type 0} {s : Shape} {f : Floats} {n : Numbe
         }
 
 -- what the walk's readers ask for
-module _ {P : Model → Type 0} {s : Shape} {f : Floats} {n : Numbers} {ss : List ℕ} {r k l : ℕ} (R : Ready P s f n) (q : (M : Model) → P M → Spans ss M)
+module _ {P : Model → Type 0} {s : Context} {f : Floats} {n : Numbers} {ss : List ℕ} {r k l : ℕ} (R : Ready P s f n) (q : (M : Model) → P M → Spans ss M)
     (p : r < s.rows) (a : Alive n r) (el : l ≡ get_or n.binaries r 0) (kl : k < l) where
   over_from : from R.model r ≡ get_or ss r 0
   over_from = from_of R.model r (q R.model R.known).starts

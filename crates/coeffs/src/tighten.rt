@@ -9,16 +9,16 @@ ghost use Rattle.readers.specs.Reading.{Alive, ReadsF, Domains};
 ghost use Rattle.coeffs.specs.Eligible.{Binaries, RowLimits, count_all};
 
 use formulas::{OneSided, Rewrite};
-use space::{Coeffs, Ehi, Elo, Len, Shape, Vars};
+use space::{Coeffs, Context, Ehi, Elo, Len, Vars};
 
 // = binary
-fn is_binary(domain: &[u8], w: &[f64], s: Shape, v: usize) -> bool
-    requires { (v < s.vars) × (v < length domain.now) × HoldsF s w.now }
-    ensures { ReadsF (Domains domain.now) s (floats_of s w.now) result (λ M u. definition.binary M u v) }
+fn is_binary(domain: &[u8], floats: &[f64], cx: Context, v: usize) -> bool
+    requires { (v < cx.vars) × (v < length domain.now) × HoldsF cx floats.now }
+    ensures { ReadsF (Domains domain.now) cx (floats_of cx floats.now) result (λ M u. definition.binary M u v) }
 {
     let int = readers::is_int_domain(domain, v);
-    let lo = space::get::<Elo>(w, s, v);
-    let hi = space::get::<Ehi>(w, s, v);
+    let lo = space::get::<Elo>(floats, cx, v);
+    let hi = space::get::<Ehi>(floats, cx, v);
     formulas::binary(int, lo, hi)
 }
 
@@ -28,16 +28,16 @@ fn is_binary(domain: &[u8], w: &[f64], s: Shape, v: usize) -> bool
 pub fn rewrite_term(
     x: OneSided,
     domain: &[u8],
-    w: &[f64],
-    s: Shape,
+    floats: &[f64],
+    cx: Context,
     v: usize,
     a: f64,
 ) -> Option<Rewrite>
-    requires { (v < s.vars) × (v < length domain.now) × HoldsF s w.now }
-    ensures { ReadsF (Domains domain.now) s (floats_of s w.now) (maybe_rewrite result)
+    requires { (v < cx.vars) × (v < length domain.now) × HoldsF cx floats.now }
+    ensures { ReadsF (Domains domain.now) cx (floats_of cx floats.now) (maybe_rewrite result)
         (λ M u. rewrite_at M (definition.binary M u v) (maybe_form x.form) x.room (bare x.limits) x.act a) }
 {
-    x.rewrite_of(is_binary(domain, w, s, v), a)
+    x.rewrite_of(is_binary(domain, floats, cx, v), a)
 }
 
 // = eligible, over the live terms of row r, whose limits these are
@@ -45,23 +45,23 @@ pub fn eligible(
     x: OneSided,
     domain: &[u8],
     starts: &[usize],
-    w: &[f64],
-    m: &[usize],
-    s: Shape,
+    floats: &[f64],
+    numbers: &[usize],
+    cx: Context,
     r: usize,
 ) -> usize
-    requires r_lt_rows { (r < s.rows) × HoldsF s w.now × HoldsN s m.now × Alive (numbers_of s m.now) r }
-    requires row_limits { RowLimits s (floats_of s w.now) r x.limits }
-    requires ready { Ready (Binaries domain.now starts.now) s (floats_of s w.now) (numbers_of s m.now) }
-    ensures { Reads (Binaries domain.now starts.now) s (floats_of s w.now) (numbers_of s m.now) result (count_all (maybe_form x.form) x.room x.act r) }
+    requires r_lt_rows { (r < cx.rows) × HoldsF cx floats.now × HoldsN cx numbers.now × Alive (numbers_of cx numbers.now) r }
+    requires row_limits { RowLimits cx (floats_of cx floats.now) r x.limits }
+    requires ready { Ready (Binaries domain.now starts.now) cx (floats_of cx floats.now) (numbers_of cx numbers.now) }
+    ensures { Reads (Binaries domain.now starts.now) cx (floats_of cx floats.now) (numbers_of cx numbers.now) result (count_all (maybe_form x.form) x.room x.act r) }
 {
     let a = starts[r];
-    let len = space::get::<Len>(m, s, r);
+    let len = space::get::<Len>(numbers, cx, r);
     let mut n = 0;
     for i in 0..len {
-        let v = space::get::<Vars>(m, s, a + i);
-        let c = space::get::<Coeffs>(w, s, a + i);
-        let z = rewrite_term(x, domain, w, s, v, c);
+        let v = space::get::<Vars>(numbers, cx, a + i);
+        let c = space::get::<Coeffs>(floats, cx, a + i);
+        let z = rewrite_term(x, domain, floats, cx, v, c);
         n += formulas::rewrite_count(z);
     }
     n

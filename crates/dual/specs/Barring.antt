@@ -13,7 +13,7 @@ use Rattle.definition.specs.Model.{Model, Row, from}
 use Rattle.definition.specs.Work.{Work, no_row, no_term}
 use Rattle.definition.specs.Dual.{block_terms, bad_dec, bad_inc}
 use Rattle.formulas.specs.Fixing.{blocks_at}
-use Rattle.space.specs.declared.Shape.{Shape}
+use Rattle.space.specs.declared.Context.{Context}
 use Rattle.space.specs.Store.{Floats, Numbers}
 use Rattle.view.specs.Shows.{is_one, Shows, RowShown, parts_of}
 use Rattle.view.specs.Lists.{yes, no, one_is, one_not}
@@ -56,19 +56,19 @@ term_bars ge le {u = u} {y = y} ev ex e₁ a₁ e₂ a₂ =
     (λ l. rw (← ev, ← ex) (ap (λ (b : Bool). barred b u l) e₂ ∙ block_one le ge u y l))
 
 -- the k terms from place a on have variables of the model
-pub record TermsBelow (s : Shape) (n : Numbers) (a k : ℕ) : Type 0 where
+pub record TermsBelow (s : Context) (n : Numbers) (a k : ℕ) : Type 0 where
   pub below : (j : ℕ) → j < k → get_or n.vars (a + j) 0 < s.vars
 
 -- block_terms: after the first i of the k terms from place a on
-pub record Barring (s : Shape) (a k i : ℕ) (ge le : Bool) (f : Floats) (n₀ n : Numbers) : Type 0 where
+pub record Barring (s : Context) (a k i : ℕ) (ge le : Bool) (f : Floats) (n₀ n : Numbers) : Type 0 where
   pub upto : i ≤ k
   pub flags : Flags n₀ n (block_terms ge le (terms_at f.coeffs n₀.vars a i)) (block_terms le ge (terms_at f.coeffs n₀.vars a i))
 
-pub bar_start : {s : Shape} (a k : ℕ) (ge le : Bool) (f : Floats) {n : Numbers} → Barring s a k 0 ge le f n n
+pub bar_start : {s : Context} (a k : ℕ) (ge le : Bool) (f : Floats) {n : Numbers} → Barring s a k 0 ge le f n n
 bar_start a k ge le f {n} =
     record { upto = omega arith; flags = flags_none (block_nil ge le f.coeffs n.vars a) (block_nil le ge f.coeffs n.vars a) }
 
-module _ {s : Shape} {a k i : ℕ} {ge le : Bool} {f : Floats} {n₀ n : Numbers} (B : Barring s a k i ge le f n₀ n) where
+module _ {s : Context} {a k i : ℕ} {ge le : Bool} {f : Floats} {n₀ n : Numbers} (B : Barring s a k i ge le f n₀ n) where
   bar_vars : n.vars ≡ n₀.vars
   bar_vars = ap (λ (z : Numbers). z.vars) B.flags.same
 
@@ -132,12 +132,12 @@ each_next : (g : ℕ → List Bool → List Bool) (j : ℕ) (l : List Bool) → 
 unfolding each_row
 each_next g j l = rw add-one refl
 
-pub record Rows (ss : List ℕ) (s : Shape) (r : ℕ) (f : Floats) (n₀ n : Numbers) : Type 0 where
+pub record Rows (ss : List ℕ) (s : Context) (r : ℕ) (f : Floats) (n₀ n : Numbers) : Type 0 where
   pub upto : r ≤ s.rows
   pub ready : Ready (Spans ss) s f n
   pub flags : Flags n₀ n (each_row (fall_bars ss f n₀) r) (each_row (rise_bars ss f n₀) r)
 
-pub rows_start : {ss : List ℕ} {s : Shape} {f : Floats} {n : Numbers} → Ready (Spans ss) s f n → Rows ss s 0 f n n
+pub rows_start : {ss : List ℕ} {s : Context} {f : Floats} {n : Numbers} → Ready (Spans ss) s f n → Rows ss s 0 f n n
 rows_start {ss} {f = f} {n} R =
     record { upto = omega arith; ready = R; flags = flags_none (each_nil (fall_bars ss f n)) (each_nil (rise_bars ss f n)) }
 
@@ -150,7 +150,7 @@ rise_same : (ss : List ℕ) (f : Floats) (n₀ : Numbers) {n : Numbers} (d i : L
 unfolding rise_bars
 rise_same ss f n₀ d i r l e = rw e refl
 
-module _ {ss : List ℕ} {s : Shape} {r : ℕ} {f : Floats} {n₀ n : Numbers} (R : Rows ss s r f n₀ n) where
+module _ {ss : List ℕ} {s : Context} {r : ℕ} {f : Floats} {n₀ n : Numbers} (R : Rows ss s r f n₀ n) where
   pub rows_turn : {n₁ : Numbers} → r < s.rows → Flags n n₁ (fall_bars ss f n r) (rise_bars ss f n r) → Ready (Spans ss) s f n₁ → Rows ss s (r + 1) f n₀ n₁
   rows_turn p t y =
       record {
@@ -168,7 +168,7 @@ module _ {ss : List ℕ} {s : Shape} {r : ℕ} {f : Floats} {n₀ n : Numbers} (
       flags_same R.flags (λ l. ap (λ (j : ℕ). each_row (fall_bars ss f n₀) j l) z) (λ l. ap (λ (j : ℕ). each_row (rise_bars ss f n₀) j l) z)
 
 -- what block_terms asks for, of an alive row
-module _ {ss : List ℕ} {s : Shape} {f : Floats} {n : Numbers} {r d : ℕ} (R : Ready (Spans ss) s f n) (p : r < s.rows) (e : d ≡ get_or n.alive r 0) (one : d ≡ 1) where
+module _ {ss : List ℕ} {s : Context} {f : Floats} {n : Numbers} {r d : ℕ} (R : Ready (Spans ss) s f n) (p : r < s.rows) (e : d ≡ get_or n.alive r 0) (one : d ≡ 1) where
   row : RowAt ss s f n r (row_of R.work r)
   row = row_ready R (λ M q. q) p (sym e ∙ one)
 

@@ -12,7 +12,7 @@ use Rattle.definition.specs.Work.{Work, fixed}
 use Rattle.definition.specs.Bounds.{fix}
 use Rattle.definition.specs.Dual.{bad_dec, bad_inc, none_bad, may_fall, may_rise, dual_var, dual_from, dual_fix}
 use Rattle.formulas.specs.Fixing.{fixed_at, fixed_of, falls_at, rises_at, may_fall_of, may_rise_of}
-use Rattle.space.specs.declared.Shape.{Shape}
+use Rattle.space.specs.declared.Context.{Context}
 use Rattle.space.specs.Store.{Floats, Numbers}
 use Rattle.view.specs.declared.Lists.{Lists}
 use Rattle.view.specs.Call.{Call}
@@ -35,31 +35,31 @@ use Rattle.dual.specs.Barring.{fall_bars, rise_bars, each_row, falls_are, rises_
 pub record Fixing (os : List Float) (lists : Lists) (M : Model) : Type 0 where
   pub obj : M.obj ≡ os
   pub domain : M.domain ≡ lists.domain.now
-  pub adj : Adjacency M lists.adj.now
+  pub adjacency : Adjacency M lists.adjacency.now
 
 -- and where the rows' spans are
 pub record Dual (os : List Float) (lists : Lists) (M : Model) : Type 0 where
   pub obj : M.obj ≡ os
   pub domain : M.domain ≡ lists.domain.now
   pub starts : M.starts ≡ lists.rows.starts.now
-  pub adj : Adjacency M lists.adj.now
+  pub adjacency : Adjacency M lists.adjacency.now
 
-pub fixing_adj : {os : List Float} {lists : Lists} (M : Model) → Fixing os lists M → Adjacency M lists.adj.now
-fixing_adj M k = k.adj
+pub fixing_adj : {os : List Float} {lists : Lists} (M : Model) → Fixing os lists M → Adjacency M lists.adjacency.now
+fixing_adj M k = k.adjacency
 
 pub fixing_domains : {os : List Float} {lists : Lists} (M : Model) → Fixing os lists M → Domains lists.domain.now M
 fixing_domains M k = record { domain = k.domain }
 
 pub dual_fixing : {os : List Float} {lists : Lists} (M : Model) → Dual os lists M → Fixing os lists M
-dual_fixing M k = record { obj = k.obj; domain = k.domain; adj = k.adj }
+dual_fixing M k = record { obj = k.obj; domain = k.domain; adjacency = k.adjacency }
 
 pub dual_spans : {os : List Float} {lists : Lists} (M : Model) → Dual os lists M → Spans lists.rows.starts.now M
 dual_spans M k = record { starts = k.starts }
 
-pub obj_in : {os : List Float} {lists : Lists} {s : Shape} {f : Floats} {n : Numbers} {v : ℕ} → Ready (Fixing os lists) s f n → v < s.vars → v < length os
+pub obj_in : {os : List Float} {lists : Lists} {s : Context} {f : Floats} {n : Numbers} {v : ℕ} → Ready (Fixing os lists) s f n → v < s.vars → v < length os
 obj_in R p = omega (arith, p, R.call.vars, R.call.objs, ap length R.known.obj)
 
-pub domain_in : {os : List Float} {lists : Lists} {s : Shape} {f : Floats} {n : Numbers} {v : ℕ} → Ready (Fixing os lists) s f n → v < s.vars → v < length lists.domain.now
+pub domain_in : {os : List Float} {lists : Lists} {s : Context} {f : Floats} {n : Numbers} {v : ℕ} → Ready (Fixing os lists) s f n → v < s.vars → v < length lists.domain.now
 domain_in R p = omega (arith, p, R.call.vars, R.call.domains, ap length R.known.domain)
 
 -- ---- stays: whether a variable is left alone
@@ -70,7 +70,7 @@ fixed_is : (v : ℕ) {lo hi : Float} {b : Bool} {M : Model} {f : Floats} {n : Nu
     → hi ≡ get_or f.ehi v nan → b ≡ fixed_at lo hi → Shows M f n o w → fixed w v ≡ b
 fixed_is v {w = w} el eh eb h = sym (fixed_of v w) ∙ cc (elo_is v h el, ehi_is v h eh, eb)
 
-module _ {ds : List ℕ} {s : Shape} {f : Floats} (v : ℕ) {lo hi : Float} {b : Bool} (el : lo ≡ get_or f.elo v nan) (eh : hi ≡ get_or f.ehi v nan) (eb : b ≡ fixed_at lo hi) where
+module _ {ds : List ℕ} {s : Context} {f : Floats} (v : ℕ) {lo hi : Float} {b : Bool} (el : lo ≡ get_or f.elo v nan) (eh : hi ≡ get_or f.ehi v nan) (eb : b ≡ fixed_at lo hi) where
   pub stays_fixed : b ≡ true → ReadsF (Domains ds) s f true (λ M w. stays_at M v w)
   stays_fixed t = record { reads = λ M n o k w p c h i. rw (fixed_is v el eh eb h, t) refl }
 
@@ -134,7 +134,7 @@ unfolding dual_var
 var_before M dec inc v w changed = before changed (stays_at M v w) (may_fall M dec v w) (may_rise M inc v w) w _ _
 
 -- what dual_var gives is shown
-module _ {P : Model → Type 0} {s : Shape} {f f' : Floats} {n n' : Numbers} {z : Bool} (F : Model → Work → Work × Bool) (G : Model → Work → Work) where
+module _ {P : Model → Type 0} {s : Context} {f f' : Floats} {n n' : Numbers} {z : Bool} (F : Model → Work → Work × Bool) (G : Model → Work → Work) where
   bool_by : ((M : Model) (o : List ℕ) (k : ℕ) (w : Work) → P M → Call M s → Shows M f n o w → Inv M k w → F M w ≡ (G M w, z))
       → ((M : Model) (o : List ℕ) (k : ℕ) (w : Work) → P M → Call M s → Shows M f n o w → Inv M k w → Shows M f' n' o (G M w)) → ActsBool P s f n f' n' z F
   bool_by e a =
@@ -147,7 +147,7 @@ module _ {P : Model → Type 0} {s : Shape} {f f' : Floats} {n n' : Numbers} {z 
 abbrev pub by_flags : Numbers → ℕ → Bool → Model → Work → Work × Bool
 by_flags n v changed M w = dual_var M (map is_one n.bad_dec) (map is_one n.bad_inc) v w changed
 
-module _ {os : List Float} {lists : Lists} {s : Shape} {f : Floats} {n : Numbers} (v : ℕ) (changed : Bool) {a : Bool} (st : ReadsF (Domains lists.domain.now) s f a (λ M w. stays_at M v w)) where
+module _ {os : List Float} {lists : Lists} {s : Context} {f : Floats} {n : Numbers} (v : ℕ) (changed : Bool) {a : Bool} (st : ReadsF (Domains lists.domain.now) s f a (λ M w. stays_at M v w)) where
   stays_is : (M : Model) (o : List ℕ) (k : ℕ) (w : Work) → Fixing os lists M → Call M s → Shows M f n o w → Inv M k w → stays_at M v w ≡ a
   stays_is M o k w p c h i = st.reads M n o k w (fixing_domains M p) c h i
 
@@ -163,14 +163,14 @@ module _ {os : List Float} {lists : Lists} {s : Shape} {f : Floats} {n : Numbers
         let z : get_or (map is_one n.bad_dec) v true ≡ is_one (get_or n.bad_dec v 0) = get_d_map is_one n.bad_dec v 0 true (omega (arith, p, ld)) in
         sym (may_fall_of v w M (map is_one n.bad_dec)) ∙ cc (q.obj, z, h.wlo, eb)
 
-    pub var_falls : {x : Float} {f' : Floats} {n' : Numbers} → b ≡ true → x ≡ get_or f.wlo v nan → Acts (Adj lists.adj.now) s f n f' n' (λ M. fix M v x)
+    pub var_falls : {x : Float} {f' : Floats} {n' : Numbers} → b ≡ true → x ≡ get_or f.wlo v nan → Acts (Adj lists.adjacency.now) s f n f' n' (λ M. fix M v x)
         → ActsBool (Fixing os lists) s f n f' n' true (by_flags n v changed)
     var_falls {x} t ex m =
         bool_by (by_flags n v changed) (λ M w. fix M v x w)
         (λ M o k w q c h i.
         var_down M (map is_one n.bad_dec) (map is_one n.bad_inc) v w changed (stays_is M o k w q c h i ∙ e) (falls_is M o w q h ∙ t)
         ∙ ap (λ (y : Float). (fix M v y w, true)) (sym (wlo_is v h ex)))
-        (λ M o k w q c h i. m.does M o k w q.adj c h i)
+        (λ M o k w q c h i. m.does M o k w q.adjacency c h i)
 
     module _ (t : b ≡ false) (li : length n.bad_inc ≡ s.vars) {d : Bool} (ed : d ≡ rises_at (get_or os v nan) (is_one (get_or n.bad_inc v 0)) (get_or f.whi v nan)) where
       rises_is : (M : Model) (o : List ℕ) (w : Work) → Fixing os lists M → Shows M f n o w → may_rise M (map is_one n.bad_inc) v w ≡ d
@@ -178,14 +178,14 @@ module _ {os : List Float} {lists : Lists} {s : Shape} {f : Floats} {n : Numbers
           let z : get_or (map is_one n.bad_inc) v true ≡ is_one (get_or n.bad_inc v 0) = get_d_map is_one n.bad_inc v 0 true (omega (arith, p, li)) in
           sym (may_rise_of v w M (map is_one n.bad_inc)) ∙ cc (q.obj, z, h.whi, ed)
 
-      pub var_rises : {x : Float} {f' : Floats} {n' : Numbers} → d ≡ true → x ≡ get_or f.whi v nan → Acts (Adj lists.adj.now) s f n f' n' (λ M. fix M v x)
+      pub var_rises : {x : Float} {f' : Floats} {n' : Numbers} → d ≡ true → x ≡ get_or f.whi v nan → Acts (Adj lists.adjacency.now) s f n f' n' (λ M. fix M v x)
           → ActsBool (Fixing os lists) s f n f' n' true (by_flags n v changed)
       var_rises {x} u ex m =
           bool_by (by_flags n v changed) (λ M w. fix M v x w)
           (λ M o k w q c h i.
           var_up M (map is_one n.bad_dec) (map is_one n.bad_inc) v w changed (stays_is M o k w q c h i ∙ e) (falls_is M o w q h ∙ t) (rises_is M o w q h ∙ u)
           ∙ ap (λ (y : Float). (fix M v y w, true)) (sym (whi_is v h ex)))
-          (λ M o k w q c h i. m.does M o k w q.adj c h i)
+          (λ M o k w q c h i. m.does M o k w q.adjacency c h i)
 
       pub var_rests : d ≡ false → ActsBool (Fixing os lists) s f n f n changed (by_flags n v changed)
       var_rests u =
@@ -210,20 +210,20 @@ module _ {M : Model} {k : ℕ} where
   unfolding dual_fix
   inv_dual w i = inv_from (length M.lower) _ _ 0 w false i
 
-pub var_keeps : {P : Model → Type 0} {s : Shape} (dec inc : List Bool) (v : ℕ) (changed : Bool) → KeepsBool P s (λ M w. dual_var M dec inc v w changed)
+pub var_keeps : {P : Model → Type 0} {s : Context} (dec inc : List Bool) (v : ℕ) (changed : Bool) → KeepsBool P s (λ M w. dual_var M dec inc v w changed)
 var_keeps dec inc v changed = record { keeps = λ M k w p c i. inv_var dec inc v w changed i }
 
-pub dual_keeps : {P : Model → Type 0} {s : Shape} → KeepsBool P s (λ M. dual_fix M)
+pub dual_keeps : {P : Model → Type 0} {s : Context} → KeepsBool P s (λ M. dual_fix M)
 dual_keeps = record { keeps = λ M k w p c i. inv_dual w i }
 
 -- ---- dual_vars: what is left from v on gives the whole
-pub record Left (M : Model) (s : Shape) (f : Floats) (n : Numbers) (o : List ℕ) (k : ℕ) (dec inc : List Bool) (v : ℕ) (changed : Bool) (whole : Work × Bool) : Type 0 where
+pub record Left (M : Model) (s : Context) (f : Floats) (n : Numbers) (o : List ℕ) (k : ℕ) (dec inc : List Bool) (v : ℕ) (changed : Bool) (whole : Work × Bool) : Type 0 where
   pub work : Work
   pub shows : Shows M f n o work
   pub inv : Inv M k work
   pub rest : dual_from M (s.vars - v) dec inc v work changed ≡ whole
 
-pub record Vars (os : List Float) (lists : Lists) (s : Shape) (v : ℕ) (changed : Bool) (f₀ : Floats) (n₀ : Numbers) (f : Floats) (n : Numbers) : Type 0 where
+pub record Vars (os : List Float) (lists : Lists) (s : Context) (v : ℕ) (changed : Bool) (f₀ : Floats) (n₀ : Numbers) (f : Floats) (n : Numbers) : Type 0 where
   pub upto : v ≤ s.vars
   pub ready : Ready (Fixing os lists) s f n
   pub kept : FlagsKept n₀ n
@@ -239,7 +239,7 @@ from_done : (M : Model) (j : ℕ) (dec inc : List Bool) (v : ℕ) (w : Work) (ch
 unfolding dual_from
 from_done M j dec inc v w changed e = rw e refl
 
-pub vars_start : {os : List Float} {lists : Lists} {s : Shape} {f : Floats} {n : Numbers} → Ready (Fixing os lists) s f n → Vars os lists s 0 false f n f n
+pub vars_start : {os : List Float} {lists : Lists} {s : Context} {f : Floats} {n : Numbers} → Ready (Fixing os lists) s f n → Vars os lists s 0 false f n f n
 vars_start {s = s} {n = n} R =
     record {
       upto = omega arith;
@@ -253,7 +253,7 @@ vars_start {s = s} {n = n} R =
       };
     }
 
-module _ {os : List Float} {lists : Lists} {s : Shape} {v : ℕ} {changed : Bool} {f₀ f : Floats} {n₀ n : Numbers} (L : Vars os lists s v changed f₀ n₀ f n) where
+module _ {os : List Float} {lists : Lists} {s : Context} {v : ℕ} {changed : Bool} {f₀ f : Floats} {n₀ n : Numbers} (L : Vars os lists s v changed f₀ n₀ f n) where
   pub vars_turn : {f' : Floats} {n' : Numbers} {z : Bool} → v < s.vars → ActsBool (Fixing os lists) s f n f' n' z
       (λ M w. dual_var M (map is_one n.bad_dec) (map is_one n.bad_inc) v w false) → FlagsKept n n' → Vars os lists s (v + 1) (changed || z) f₀ n₀ f' n'
   vars_turn {z = z} p a y =
@@ -298,7 +298,7 @@ dual_is : (M : Model) (w : Work) → dual_from M (length M.lower) (bad_dec w.row
 unfolding dual_fix
 dual_is M w = refl
 
-pub dual_end : {os : List Float} {lists : Lists} {s : Shape} {f f' : Floats} {n n₁ n₂ n' : Numbers} {z : Bool} → Flags n n₁ (λ l. none_bad s.vars)
+pub dual_end : {os : List Float} {lists : Lists} {s : Context} {f f' : Floats} {n n₁ n₂ n' : Numbers} {z : Bool} → Flags n n₁ (λ l. none_bad s.vars)
     (λ l. none_bad s.vars) → Flags n₁ n₂ (each_row (fall_bars lists.rows.starts.now f n₁) s.rows) (each_row (rise_bars lists.rows.starts.now f n₁) s.rows)
     → ActsBool (Fixing os lists) s f n₂ f' n' z (λ M w. dual_from M s.vars (map is_one n₂.bad_dec) (map is_one n₂.bad_inc) 0 w false) → ActsBool (Dual os lists) s f n f' n' z (λ M. dual_fix M)
 dual_end {os} {lists} {s} {f} {f'} {n} {n₁} {n₂} {n'} {z} a b t =

@@ -5,7 +5,7 @@ use Rattle.floats.specs.Num.{choose}
 use Rattle.definition.specs.Model.{Model}
 use Rattle.definition.specs.Work.{Work}
 use Rattle.definition.specs.Dual.{none_bad}
-use Rattle.space.specs.declared.Shape.{Shape}
+use Rattle.space.specs.declared.Context.{Context}
 use Rattle.space.specs.Store.{Floats, Numbers, put_bad_dec, put_bad_inc}
 use Rattle.view.specs.Shows.{is_one, Shows}
 use Rattle.view.specs.Lists.{yes, no, one_is, zero_is, map_set}
@@ -84,7 +84,7 @@ module _ {n n' : Numbers} {F G : List Bool → List Bool} (a : Flags n n' F G) w
         rows = h.rows;
       })
 
-  pub ready_flags : {P : Model → Type 0} {s : Shape} {f : Floats} → Ready P s f n → Ready P s f n'
+  pub ready_flags : {P : Model → Type 0} {s : Context} {f : Floats} → Ready P s f n → Ready P s f n'
   ready_flags r =
       record {
         model = r.model;
@@ -145,7 +145,7 @@ take_whole [] = refl
 take_whole (x ∷ l) = ap (λ (t : List _). x ∷ t) (take_whole l)
 
 -- the flags of the variables below v are cleared
-pub record Clearing (s : Shape) (v : ℕ) (n₀ n : Numbers) : Type 0 where
+pub record Clearing (s : Context) (v : ℕ) (n₀ n : Numbers) : Type 0 where
   pub upto : v ≤ s.vars
   pub dec_long : length n.bad_dec ≡ s.vars
   pub inc_long : length n.bad_inc ≡ s.vars
@@ -153,10 +153,10 @@ pub record Clearing (s : Shape) (v : ℕ) (n₀ n : Numbers) : Type 0 where
   pub dec : map is_one (take v n.bad_dec) ≡ none_bad v
   pub inc : map is_one (take v n.bad_inc) ≡ none_bad v
 
-pub clear_start : {s : Shape} {n : Numbers} → length n.bad_dec ≡ s.vars → length n.bad_inc ≡ s.vars → Clearing s 0 n n
+pub clear_start : {s : Context} {n : Numbers} → length n.bad_dec ≡ s.vars → length n.bad_inc ≡ s.vars → Clearing s 0 n n
 clear_start d i = record { upto = omega arith; dec_long = d; inc_long = i; same = refl; dec = none_nil; inc = none_nil }
 
-module _ {s : Shape} {v : ℕ} {n₀ n : Numbers} (C : Clearing s v n₀ n) where
+module _ {s : Context} {v : ℕ} {n₀ n : Numbers} (C : Clearing s v n₀ n) where
   pub clear_turn : {n₁ n₂ : Numbers} → v < s.vars → n₁ ≡ put_bad_dec v 0 n → n₂ ≡ put_bad_inc v 0 n₁ → Clearing s (v + 1) n₀ n₂
   clear_turn {n₁} {n₂} p e₁ e₂ =
       let e : n₂ ≡ with_bad (set n.bad_dec v 0) (set n.bad_inc v 0) n = e₂ ∙ ap (put_bad_inc v 0) e₁ in

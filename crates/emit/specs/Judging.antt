@@ -13,7 +13,7 @@ use Rattle.definition.specs.declared.Rows.{Rows}
 use Rattle.definition.specs.Model.{Model, from, upto, nnz, op_of, rhs_of}
 use Rattle.definition.specs.Work.{Work, trivial}
 use Rattle.definition.specs.Bindings.{rewritten_bound}
-use Rattle.space.specs.declared.Shape.{Shape}
+use Rattle.space.specs.declared.Context.{Context}
 use Rattle.space.specs.Store.{Floats, Numbers, put_fate, put_bound}
 use Rattle.view.specs.Call.{Call}
 use Rattle.view.specs.Shows.{is_one, Shows}
@@ -27,10 +27,10 @@ use Rattle.readers.specs.RowAt.{row_alive, row_shown}
 use Rattle.emit.specs.Fates.{is_rewritten, fate_of, Fates}
 
 -- ---- is_trivial
-pub record TellsTrivial (s : Shape) (ss os : List ℕ) (bs : List Float) (r : ℕ) (z : Bool) : Type 0 where
+pub record TellsTrivial (s : Context) (ss os : List ℕ) (bs : List Float) (r : ℕ) (z : Bool) : Type 0 where
   pub tells : (M : Model) → M.starts ≡ ss → M.cmp ≡ os → M.rhs ≡ bs → Call M s → trivial M r ≡ z
 
-pub trivial_tells : {s : Shape} {ss os : List ℕ} {bs : List Float} {r : ℕ} (t : std.Option Bool) {z : Bool} → option_of t ≡ trivial_verdict s.feas (get_or os r 0)
+pub trivial_tells : {s : Context} {ss os : List ℕ} {bs : List Float} {r : ℕ} (t : std.Option Bool) {z : Bool} → option_of t ≡ trivial_verdict s.feas (get_or os r 0)
     (get_or ss (r + 1) 0 - get_or ss r 0) (get_or bs r nan) → z ≡ unwrap_or t false
     → TellsTrivial s ss os bs r z
 unfolding trivial op_of rhs_of nnz from upto
@@ -40,7 +40,7 @@ trivial_tells t e f = record { tells = λ M a b d c. rw (a, b, d, ← c.feas) (s
 pub written_gives : {rows : Rows} (M : Model) → Written rows M → (M.starts ≡ rows.starts.now) × (M.cmp ≡ rows.cmp.now) × (M.rhs ≡ rows.rhs.now)
 written_gives M x = (x.starts, x.cmp, x.rhs)
 
-pub ready_trivial : {rows : Rows} {s : Shape} {f : Floats} {n : Numbers} {r : ℕ} → Ready (Written rows) s f n → r < s.rows
+pub ready_trivial : {rows : Rows} {s : Context} {f : Floats} {n : Numbers} {r : ℕ} → Ready (Written rows) s f n → r < s.rows
     → (r + 1 < length rows.starts.now) × (r < length rows.cmp.now) × (r < length rows.rhs.now) × (get_or rows.starts.now r 0 ≤ get_or rows.starts.now (r + 1) 0)
 unfolding from upto
 ready_trivial {r = r} R p =
@@ -112,13 +112,13 @@ shows_with b l h =
     }
 
 -- the fates and bounds of the rows below r are set
-pub record Judged (P : Model → Type 0) (s : Shape) (f : Floats) (n : Numbers) (f' : Floats) (n' : Numbers) (r : ℕ) : Type 0 where
+pub record Judged (P : Model → Type 0) (s : Context) (f : Floats) (n : Numbers) (f' : Floats) (n' : Numbers) (r : ℕ) : Type 0 where
   pub floats : f' ≡ with_bound f'.bound f
   pub numbers : n' ≡ with_fate n'.fate n
   pub fates : (M : Model) (o : List ℕ) (k : ℕ) (w : Work) → P M → Call M s → Shows M f n o w → Inv M k w → Fates M n'.fate f'.bound w.rows r
 
 -- one row's are
-pub record JudgedRow (P : Model → Type 0) (s : Shape) (f : Floats) (n : Numbers) (f' : Floats) (n' : Numbers) (r : ℕ) : Type 0 where
+pub record JudgedRow (P : Model → Type 0) (s : Context) (f : Floats) (n : Numbers) (f' : Floats) (n' : Numbers) (r : ℕ) : Type 0 where
   pub floats : f' ≡ with_bound f'.bound f
   pub numbers : n' ≡ with_fate n'.fate n
   pub fate_other : (q : ℕ) → q ≢ r → get_or n'.fate q 0 ≡ get_or n.fate q 0
@@ -131,7 +131,7 @@ pub shows_still : {M : Model} {f f' : Floats} {n n' : Numbers} {o : List ℕ} {w
 shows_still {M} {f} {f'} {n} {n'} {o} {w} a b h =
     subst (λ (x : Floats). Shows M x n' o w) (sym a) (subst (λ (x : Numbers). Shows M (with_bound f'.bound f) x o w) (sym b) (shows_with f'.bound n'.fate h))
 
-module _ {P : Model → Type 0} {s : Shape} {f f' : Floats} {n n' : Numbers} where
+module _ {P : Model → Type 0} {s : Context} {f f' : Floats} {n n' : Numbers} where
   pub judged_ready : Ready P s f n → f' ≡ with_bound f'.bound f → n' ≡ with_fate n'.fate n → Ready P s f' n'
   judged_ready R a b =
       record {
@@ -161,7 +161,7 @@ module _ {P : Model → Type 0} {s : Shape} {f f' : Floats} {n n' : Numbers} whe
             };
       }
 
-pub judged_start : {P : Model → Type 0} {s : Shape} {f : Floats} {n : Numbers} → Judged P s f n f n 0
+pub judged_start : {P : Model → Type 0} {s : Context} {f : Floats} {n : Numbers} → Judged P s f n f n 0
 judged_start = record { floats = refl; numbers = refl; fates = λ M o k w p c h i. record { fate = λ q l. absurd (omega (arith, l)); bound = λ q l t. absurd (omega (arith, l)) } }
 
 -- ---- judge_row, by its ways
@@ -175,7 +175,7 @@ module _ (n n' : Numbers) (r c : ℕ) (e : n' ≡ put_fate r c n) where
   fate_other_lem : (q : ℕ) → q ≢ r → get_or n'.fate q 0 ≡ get_or n.fate q 0
   fate_other_lem q ne = ap (λ (x : Numbers). get_or x.fate q 0) e ∙ get_or-set_other n.fate r q c 0 ne
 
-module _ {P : Model → Type 0} (s : Shape) (f : Floats) (n n' : Numbers) (r : ℕ) (l : length n.fate ≡ s.rows) (p : r < s.rows) where
+module _ {P : Model → Type 0} (s : Context) (f : Floats) (n n' : Numbers) (r : ℕ) (l : length n.fate ≡ s.rows) (p : r < s.rows) where
   -- a fate with no bound
   judge : (c : ℕ) → is_rewritten c ≡ false → n' ≡ put_fate r c n
       → ((M : Model) (o : List ℕ) (k : ℕ) (w : Work) → P M → Call M s → Shows M f n o w → Inv M k w → fate_of M r (row_of w r) ≡ c) → JudgedRow P s f n f n' r

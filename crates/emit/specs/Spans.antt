@@ -3,7 +3,7 @@ use Rattle.std.specs.Prelude.{ℕ, zero, suc, ◌+◌, ◌≤◌, ◌<◌, ◌�
 use Rattle.std.proofs.Common.{arith, add-one, ap, ◌∙◌}
 use Rattle.std.proofs.Math.Path.{sym}
 use Rattle.floats.specs.Num.{choose}
-use Rattle.space.specs.declared.Shape.{Shape}
+use Rattle.space.specs.declared.Context.{Context}
 use Rattle.space.specs.Store.{Numbers}
 use Rattle.view.specs.Inv.{Below}
 use Rattle.view.specs.Lists.{yes, no, either}
@@ -26,21 +26,21 @@ unfoldable pub end_at : Numbers → List ℕ → ℕ → ℕ
 end_at n ss r = choose (rewritten_at n.fate r) (terms_to n (suc r)) (get_or ss (r + 1) 0)
 
 -- spans follow each other, and those of rewritten rows hold their terms
-pub record Spanned (s : Shape) (ss : List ℕ) (n : Numbers) : Type 0 where
+pub record Spanned (s : Context) (ss : List ℕ) (n : Numbers) : Type 0 where
   pub long : s.rows < length ss
   pub rise : (r : ℕ) → r < s.rows → get_or ss r 0 ≤ get_or ss (r + 1) 0
   pub last : (r : ℕ) → r < s.rows → get_or ss (r + 1) 0 ≤ s.terms
   pub fits : (r : ℕ) → r < s.rows → rewritten_at n.fate r ≡ true → get_or ss r 0 + count_at n r ≤ get_or ss (r + 1) 0
 
 -- the variables of the rows as written, and of the rewritten ones at work
-pub record Indexed (s : Shape) (ss is : List ℕ) (n : Numbers) : Type 0 where
+pub record Indexed (s : Context) (ss is : List ℕ) (n : Numbers) : Type 0 where
   pub long : s.terms ≤ length is
   pub below : Below s.vars is
   pub vars : (r k : ℕ) → r < s.rows → rewritten_at n.fate r ≡ true → k < count_at n r
       → get_or n.vars (place_of (get_or ss r 0) (get_or ss (r + 1) 0) (get_or n.len r 0) k) 0 < s.vars
 
 -- the terms before row r are no more than where its span starts
-pub terms_before : {s : Shape} {ss : List ℕ} {n : Numbers} → Spanned s ss n → (r : ℕ) → r ≤ s.rows → terms_to n r ≤ get_or ss r 0
+pub terms_before : {s : Context} {ss : List ℕ} {n : Numbers} → Spanned s ss n → (r : ℕ) → r ≤ s.rows → terms_to n r ≤ get_or ss r 0
 unfolding terms_to
 terms_before h zero p = omega arith
 terms_before {ss = ss} {n} h (suc r) p =
@@ -57,7 +57,7 @@ module _ (n : Numbers) (r : ℕ) {c : ℕ} {k : Bool} (e : c ≡ get_or n.fate r
 -- ---- terms_with and span_of
 module _ (n : Numbers) (r : ℕ) where
   module _ {x l d : ℕ} (b : x ≡ terms_to n r) (el : l ≡ get_or n.len r 0) (ed : d ≡ get_or n.folded r 0) (t : rewritten_at n.fate r ≡ true) where
-    pub with_room : {s : Shape} {ss : List ℕ} → Spanned s ss n → r < s.rows → x + (l + d) ≤ s.terms
+    pub with_room : {s : Context} {ss : List ℕ} → Spanned s ss n → r < s.rows → x + (l + d) ≤ s.terms
     with_room h p = omega (arith, b, el, ed, terms_before h r (omega (arith, p)), h.fits r p t, h.last r p)
 
     pub with_yes : x + (l + d) ≡ terms_to n (suc r)

@@ -6,25 +6,25 @@ ghost use Rattle.emit.specs.Filling.{Filled};
 ghost use Rattle.emit.specs.FateNumbers.{Writes};
 
 use crate::fates::{Fate, fate_of};
-use space::Shape;
+use space::Context;
 
 // The values of the rows whose fate passes the test. How many there are. A `for` with a place beside it: the rows that
 // pass are fewer than the rows that are looked at, so no `zip` gives both places.
 pub(crate) fn collect<T: Copy, P: Fn(Fate) -> bool, V: Fn(usize, Fate) -> T>(
-    m: &[usize],
-    s: Shape,
+    numbers: &[usize],
+    cx: Context,
     out: &mut [T],
     test: P,
     value: V,
 ) -> usize
-    requires holds_n { HoldsN s m.now × (s.rows ≤ length out.old) }
+    requires holds_n { HoldsN cx numbers.now × (cx.rows ≤ length out.old) }
     requires tests { (x : Fate) → P.pre test x }
-    requires values { (r : ℕ) (x : Fate) → r < s.rows → V.pre value r x }
-    ensures { (p : ℕ → Bool) (g : ℕ → T) → Writes (P.post test) (V.post value) (numbers_of s m.now).fate s.rows p g → Filled p g s.rows out.old out.new result }
+    requires values { (r : ℕ) (x : Fate) → r < cx.rows → V.pre value r x }
+    ensures { (p : ℕ → Bool) (g : ℕ → T) → Writes (P.post test) (V.post value) (numbers_of cx numbers.now).fate cx.rows p g → Filled p g cx.rows out.old out.new result }
 {
     let mut n = 0;
     for r in 0..s.rows {
-        let fate = fate_of(m, s, r);
+        let fate = fate_of(numbers, cx, r);
         if test(fate) {
             out[n] = value(r, fate);
             n += 1;

@@ -4,7 +4,7 @@ ghost use Rattle.row_terms.specs.RowMark.{mark};
 ghost use Rattle.space.specs.Store.{numbers_of, HoldsN};
 ghost use Rattle.emit.specs.FateNumbers.{fate_is, number_of, keeps, emits, rewrites, FateIs};
 
-use space::Shape;
+use space::Context;
 
 // A row's fate: trivially true, dropped and kept for validation, emitted as written, or emitted
 // rewritten and kept. The slice that the caller lends has it as a number, 0 to 3 in this order.
@@ -68,9 +68,9 @@ impl Fate {
 }
 
 // The fate of row r.
-pub(crate) fn fate_of(m: &[usize], s: Shape, r: usize) -> Fate
-    requires { (r < s.rows) × HoldsN s m.now }
-    ensures { FateIs (numbers_of s m.now).fate r result }
+pub(crate) fn fate_of(numbers: &[usize], cx: Context, r: usize) -> Fate
+    requires { (r < cx.rows) × HoldsN cx numbers.now }
+    ensures { FateIs (numbers_of cx numbers.now).fate r result }
 {
-    Fate::from(space::get::<space::Fate>(m, s, r))
+    Fate::from(space::get::<space::Fate>(numbers, cx, r))
 }

@@ -5,12 +5,12 @@ ghost use Rattle.emit.specs.Fates.{kept_at, self};
 ghost use Rattle.emit.specs.Filling.{Filled};
 
 use crate::collecting::collect;
-use space::Shape;
+use space::Context;
 
 // = kept of Reduced, at the front of the slice that C lends. How many there are.
-pub fn write_kept(m: &[usize], s: Shape, kept: &mut [usize]) -> usize
-    requires { HoldsN s m.now × (s.rows ≤ length kept.old) }
-    ensures { Filled (kept_at (numbers_of s m.now).fate) self s.rows kept.old kept.new result }
+pub fn write_kept(numbers: &[usize], cx: Context, kept: &mut [usize]) -> usize
+    requires { HoldsN cx numbers.now × (cx.rows ≤ length kept.old) }
+    ensures { Filled (kept_at (numbers_of cx numbers.now).fate) self cx.rows kept.old kept.new result }
 {
-    collect(m, s, kept, |fate| fate.is_kept(), |r, _| r)
+    collect(numbers, cx, kept, |fate| fate.is_kept(), |r, _| r)
 }

@@ -5,7 +5,7 @@
 // rewritten one gets its folded terms back for the same reason. The slices are the caller's, who may be
 // in C, so each writer answers how many places it filled.
 // What the writers of spans and terms ask of the rows and of the working numbers together (`Spanned`,
-// `Indexed`) is a clause of each: neither is part of the other (see space's `Shape`).
+// `Indexed`) is a clause of each: neither is part of the other (see space's `Context`).
 #![tactic(auto)]
 
 mod bounds;

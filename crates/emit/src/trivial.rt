@@ -3,12 +3,12 @@ ghost use Rattle.readers.specs.Reading.{RowIn};
 ghost use Rattle.emit.specs.Judging.{TellsTrivial};
 
 use definition::Rows;
-use space::Shape;
+use space::Context;
 
 // = trivial
-pub fn is_trivial(rows: Rows, s: Shape, r: usize) -> bool
+pub fn is_trivial(rows: Rows, cx: Context, r: usize) -> bool
     requires { RowIn rows r }
-    ensures { TellsTrivial s rows.entry.starts.now rows.entry.cmp.now rows.entry.rhs.now r result }
+    ensures { TellsTrivial cx rows.entry.starts.now rows.entry.cmp.now rows.entry.rhs.now r result }
 {
-    readers::verdict(rows, s, r).unwrap_or(false)
+    readers::verdict(rows, cx, r).unwrap_or(false)
 }

@@ -4,7 +4,7 @@ use Rattle.std.proofs.Common.{arith, add-one, ap, ◌∙◌, inl, inr, get_or-se
 use Rattle.std.proofs.Math.Option.{Option}
 use Rattle.tolerances.specs.Tol.{Term, at}
 use Rattle.definition.specs.Model.{Model, from, upto, nnz, Row, Binding}
-use Rattle.space.specs.declared.Shape.{Shape}
+use Rattle.space.specs.declared.Context.{Context}
 use Rattle.view.specs.Call.{Call}
 use Rattle.view.specs.Shows.{is_one, Parts, TermShown, BindingShown, unbound, is_bound, RowShown}
 use Rattle.view.specs.Rows.{same?}
@@ -59,7 +59,7 @@ next_from : (M : Model) (r : ℕ) → from M (suc r) ≡ upto M r
 unfolding from upto
 next_from M r = rw add-one
 
-module _ {M : Model} {s : Shape} (c : Call M s) where
+module _ {M : Model} {s : Context} (c : Call M s) where
   spans : (q r : ℕ) → q < r → r < length M.rhs → upto M q ≤ from M r
   spans q zero h l = absurd (omega arith)
   spans q (suc r) h l = go (same? q r) (λ y. spans q r y (omega arith))

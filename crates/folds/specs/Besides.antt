@@ -10,7 +10,7 @@ use Rattle.tolerances.specs.Tol.{Term, at}
 use Rattle.definition.specs.Model.{Model, from, upto, nnz, Row, Binding}
 use Rattle.definition.specs.Work.{Work, no_term, has}
 use Rattle.definition.specs.Folds.{fixed_besides_from, fixed_besides}
-use Rattle.space.specs.declared.Shape.{Shape}
+use Rattle.space.specs.declared.Context.{Context}
 use Rattle.space.specs.Store.{Floats, Numbers}
 use Rattle.view.specs.Call.{Call}
 use Rattle.view.specs.Shows.{Parts, BindingShown, unbound, is_bound}
@@ -82,7 +82,7 @@ abbrev pub binaries_of : Option Binding → List ℕ
 binaries_of none = []
 binaries_of (some b) = b.binaries
 
-listed_is : {M : Model} {s : Shape} {q : Parts} {r : ℕ} {b : Option Binding} → Call M s → r < length M.rhs → length q.binary ≡ s.terms → BindingShown M q r b
+listed_is : {M : Model} {s : Context} {q : Parts} {r : ℕ} {b : Option Binding} → Call M s → r < length M.rhs → length q.binary ≡ s.terms → BindingShown M q r b
     → listed (from M r) (get_or q.binaries r 0) q.binary ≡ binaries_of b
 listed_is c p z (unbound e) = rw e
 listed_is {M} {q = q} {r = r} c p z (is_bound {b} h) =
@@ -90,7 +90,7 @@ listed_is {M} {q = q} {r = r} c p z (is_bound {b} h) =
     let l = span_length q.binary (from M r) k (omega (arith, h.count, h.fits, nnz_is M r, c.rise r p, c.last r p, c.terms, z)) in
     ext_get_or 0 (listed (from M r) k q.binary) b.binaries (l ∙ h.count) (λ i y. span_at q.binary (from M r) k i 0 (omega (arith, y, l)) ∙ h.binary i (omega (arith, y, l, h.count)))
 
-pub binaries_are : {M : Model} {s : Shape} {r : ℕ} {f : Floats} {n : Numbers} {w : Work} {x : Row} → Call M s → r < length M.rhs → length n.binary ≡ s.terms → Stands M r f n w x
+pub binaries_are : {M : Model} {s : Context} {r : ℕ} {f : Floats} {n : Numbers} {w : Work} {x : Row} → Call M s → r < length M.rhs → length n.binary ≡ s.terms → Stands M r f n w x
     → listed (from M r) (get_or n.binaries r 0) n.binary ≡ binaries_of x.binding
 binaries_are c p z h = listed_is c p z h.shown.binding
 
@@ -99,7 +99,7 @@ binaries_fit (unbound e) = omega (arith, e)
 binaries_fit (is_bound h) = omega (arith, h.count, h.fits)
 
 -- ---- what has_binary and fixed_besides may touch
-module _ {s : Shape} {starts : List ℕ} {r : ℕ} {f : Floats} {n : Numbers} (p : r < s.rows) (G : Standing (Spans starts) s r f n) where
+module _ {s : Context} {starts : List ℕ} {r : ℕ} {f : Floats} {n : Numbers} (p : r < s.rows) (G : Standing (Spans starts) s r f n) where
   pub binaries_in : get_or starts r 0 + get_or n.binaries r 0 ≤ s.terms
   binaries_in =
       let l = in_rows p G in
@@ -118,7 +118,7 @@ module _ {s : Shape} {starts : List ℕ} {r : ℕ} {f : Floats} {n : Numbers} (p
       omega (arith, in_model {v = v} G.call (in_rows p G) (rw (g, ← t) a), G.call.vars)
 
 -- ---- has_binary
-pub has_binary_end : {s : Shape} {starts : List ℕ} {r : ℕ} (n : Numbers) (v : ℕ) {z : Bool} {a k : ℕ} → r < s.rows → length n.binary ≡ s.terms
+pub has_binary_end : {s : Context} {starts : List ℕ} {r : ℕ} (n : Numbers) (v : ℕ) {z : Bool} {a k : ℕ} → r < s.rows → length n.binary ≡ s.terms
     → a ≡ get_or starts r 0 → k ≡ get_or n.binaries r 0 → z ≡ has v (listed a k n.binary)
     → TellsN (Spans starts) s r n z (λ M w x. has v (binaries_of x.binding))
 has_binary_end {r = r} n v {z} {a} {k} p zs ea ek ez =
@@ -149,13 +149,13 @@ unfolding fixed_besides_from
 from_none w bs s = refl
 
 -- the sum over the first j folded terms, b the binaries
-pub record Summed (starts : List ℕ) (s : Shape) (r : ℕ) (bs : List ℕ) (f : Floats) (n : Numbers) (j : ℕ) (sum : Float) : Type 0 where
+pub record Summed (starts : List ℕ) (s : Context) (r : ℕ) (bs : List ℕ) (f : Floats) (n : Numbers) (j : ℕ) (sum : Float) : Type 0 where
   pub rest : (M : Model) (w : Work) (x : Row) → Spans starts M → Call M s → Stands M r f n w x → fixed_besides_from w bs sum (drop j x.folded) ≡ fixed_besides_from w bs 0f x.folded
 
-pub summed_none : {starts : List ℕ} {s : Shape} {r : ℕ} (bs : List ℕ) {f : Floats} {n : Numbers} → Summed starts s r bs f n 0 0f
+pub summed_none : {starts : List ℕ} {s : Context} {r : ℕ} (bs : List ℕ) {f : Floats} {n : Numbers} → Summed starts s r bs f n 0 0f
 summed_none bs = record { rest = λ M w x g c h. refl }
 
-module _ {starts : List ℕ} {s : Shape} {r : ℕ} (bs : List ℕ) (f : Floats) (n : Numbers) {j : ℕ} {sum : Float} (h : Summed starts s r bs f n j sum) where
+module _ {starts : List ℕ} {s : Context} {r : ℕ} (bs : List ℕ) (f : Floats) (n : Numbers) {j : ℕ} {sum : Float} (h : Summed starts s r bs f n j sum) where
   pub summed_more : {e i : ℕ} {z : Float} → j < get_or n.folded r 0 → e ≡ get_or starts (r + 1) 0 → i ≡ e - (j + 1)
       → z ≡ besides bs sum (get_or n.vars i 0) (get_or f.coeffs i nan) (get_or f.elo (get_or n.vars i 0) nan)
       → Summed starts s r bs f n (j + 1) z
@@ -173,7 +173,7 @@ module _ {starts : List ℕ} {s : Shape} {r : ℕ} (bs : List ℕ) (f : Floats) 
             ∙ sym (from_more w bs sum t (drop (suc j) x.folded)) ∙ ap (fixed_besides_from w bs sum) (sym (drop-cons x.folded j no_term l)) ∙ h.rest M w x g c k;
       }
 
-pub besides_end : {s : Shape} {starts : List ℕ} {r : ℕ} (f : Floats) (n : Numbers) {j a k m : ℕ} {sum : Float} → r < s.rows → Sized s f n → a ≡ get_or starts r 0
+pub besides_end : {s : Context} {starts : List ℕ} {r : ℕ} (f : Floats) (n : Numbers) {j a k m : ℕ} {sum : Float} → r < s.rows → Sized s f n → a ≡ get_or starts r 0
     → k ≡ get_or n.binaries r 0 → m ≡ get_or n.folded r 0
     → Summed starts s r (listed a k n.binary) f n j sum → m ≤ j → j ≤ m → Tells (Spans starts) s r f n sum (λ M w x. fixed_besides w x (binaries_of x.binding))
 unfolding fixed_besides

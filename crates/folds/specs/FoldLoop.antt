@@ -4,7 +4,7 @@ use Rattle.std.proofs.Common.{arith, add-one, ap, sym, ◌∙◌, subst}
 use Rattle.definition.specs.Model.{Model, Row}
 use Rattle.definition.specs.Work.{Work}
 use Rattle.definition.specs.Folds.{fold_step, fold_loop}
-use Rattle.space.specs.declared.Shape.{Shape}
+use Rattle.space.specs.declared.Context.{Context}
 use Rattle.space.specs.Store.{Floats, Numbers}
 use Rattle.view.specs.Call.{Call}
 use Rattle.view.specs.Known.{Spans}
@@ -14,7 +14,7 @@ use Rattle.folds.specs.Keeping.{folds_inv, Looked, step_looked, turns_looked, lo
 use Rattle.folds.specs.FoldStep.{Steps}
 
 -- after j turns, the next one at place i; k is how many there are
-pub record Turned (starts : List ℕ) (s : Shape) (r k i j : ℕ) (f₀ : Floats) (n₀ : Numbers) (f : Floats) (n : Numbers) : Type 0 where
+pub record Turned (starts : List ℕ) (s : Context) (r k i j : ℕ) (f₀ : Floats) (n₀ : Numbers) (f : Floats) (n : Numbers) : Type 0 where
   pub all : k ≡ get_or n₀.len r 0
   pub some : j ≤ k
   pub standing : Standing (Spans starts) s r f n
@@ -26,7 +26,7 @@ no_turn : (w : Work) (s : ℕ × Row) → fold_loop 0 w s ≡ s
 unfolding fold_loop
 no_turn w s = refl
 
-pub turned_none : {starts : List ℕ} {s : Shape} {r k : ℕ} {f : Floats} {n : Numbers} → Standing (Spans starts) s r f n → k ≡ get_or n.len r 0 → Turned starts s r k 0 0 f n f n
+pub turned_none : {starts : List ℕ} {s : Context} {r k : ℕ} {f : Floats} {n : Numbers} → Standing (Spans starts) s r f n → k ≡ get_or n.len r 0 → Turned starts s r k 0 0 f n f n
 turned_none {starts} {s} {r} {k} {f} {n} G e =
     record {
       all = e;
@@ -37,7 +37,7 @@ turned_none {starts} {s} {r} {k} {f} {n} G e =
       place = record { tells = λ M w x p c h. ap (λ (u : ℕ × Row). u.0) (no_turn w (0, x)) };
     }
 
-module _ {starts : List ℕ} {s : Shape} {r k i j : ℕ} {f₀ f : Floats} {n₀ n : Numbers} (T : Turned starts s r k i j f₀ n₀ f n) where
+module _ {starts : List ℕ} {s : Context} {r k i j : ℕ} {f₀ f : Floats} {n₀ n : Numbers} (T : Turned starts s r k i j f₀ n₀ f n) where
   pub turn_at : j < k → i < get_or n.len r 0
   turn_at q = omega (arith, q, T.rest)
 

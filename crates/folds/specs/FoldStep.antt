@@ -12,7 +12,7 @@ use Rattle.definition.specs.Model.{Model, from, upto, nnz, written, Row, with_te
 use Rattle.definition.specs.Work.{Work, no_term, fixed, has_term}
 use Rattle.definition.specs.Folds.{swap_remove, fold_term, fold_step}
 use Rattle.formulas.specs.Fixing.{fixed_at}
-use Rattle.space.specs.declared.Shape.{Shape}
+use Rattle.space.specs.declared.Context.{Context}
 use Rattle.space.specs.Store.{Floats, Numbers}
 use Rattle.view.specs.Call.{Call}
 use Rattle.view.specs.Known.{Spans}
@@ -58,7 +58,7 @@ in_zip m v (u ∷ vs) [] h e = true_false (sym e)
 in_zip m v (u ∷ vs) (a ∷ cs) h e =
     or_cases (eqb u v) (has_term v (zip_terms vs cs)) (λ y. let x = eqb_true u v y in let q = h 0 (omega arith) in omega (arith, x, q)) (λ z. in_zip m v vs cs (λ k l. h (suc k) (omega (arith, l))) z) e
 
-pub in_model : {M : Model} {s : Shape} {r v : ℕ} → Call M s → r < length M.rhs → has_term v (written M r) ≡ true → v < length M.lower
+pub in_model : {M : Model} {s : Context} {r v : ℕ} → Call M s → r < length M.rhs → has_term v (written M r) ≡ true → v < length M.lower
 unfolding written
 in_model {M} {s} {r} {v} c p e =
     in_zip (length M.lower) v _ _ (λ k l. let q : k < nnz M r = omega (arith, l, indices c p) in
@@ -86,12 +86,12 @@ module _ (w : Work) (i : ℕ) (x : Row) where
   fold_is t = refl
 
 -- what fold_step promises
-pub record Steps (P : Model → Type 0) (s : Shape) (r i : ℕ) (f : Floats) (n : Numbers) (f' : Floats) (n' : Numbers) (z : ℕ) : Type 0 where
+pub record Steps (P : Model → Type 0) (s : Context) (r i : ℕ) (f : Floats) (n : Numbers) (f' : Floats) (n' : Numbers) (z : ℕ) : Type 0 where
   pub row : Turns P s r f n f' n' (λ M w x. (fold_step w (i, x)).1)
   pub place : Tells P s r f n z (λ M w x. (fold_step w (i, x)).0)
 
 -- ---- the span of a row that stands there
-module _ {s : Shape} {starts : List ℕ} {r : ℕ} {f : Floats} {n : Numbers} (p : r < s.rows) (G : Standing (Spans starts) s r f n) where
+module _ {s : Context} {starts : List ℕ} {r : ℕ} {f : Floats} {n : Numbers} (p : r < s.rows) (G : Standing (Spans starts) s r f n) where
   abbrev M₀ : Model
   M₀ = G.model
 
@@ -132,7 +132,7 @@ module _ {s : Shape} {starts : List ℕ} {r : ℕ} {f : Floats} {n : Numbers} (p
   push_in a i m {n₁} q e = let z : get_or n₁.folded r 0 ≡ get_or n.folded r 0 = ap (λ (k : Numbers). get_or k.folded r 0) e in omega (arith, q, z, folds_in)
 
 -- ---- fold_step, by its ways
-module _ {s : Shape} {starts : List ℕ} (r i : ℕ) {a : ℕ} (f : Floats) (n : Numbers) {v : ℕ} {y : Float} (p : r < s.rows) (z : Sized s f n) (ea : a ≡ get_or starts r 0) (q : i < get_or n.len r 0)
+module _ {s : Context} {starts : List ℕ} (r i : ℕ) {a : ℕ} (f : Floats) (n : Numbers) {v : ℕ} {y : Float} (p : r < s.rows) (z : Sized s f n) (ea : a ≡ get_or starts r 0) (q : i < get_or n.len r 0)
     (ev : v ≡ get_or n.vars (a + i) 0) (ey : y ≡ get_or f.coeffs (a + i) nan) where
   module _ (M : Model) (w : Work) (x : Row) (k : Spans starts M) (c : Call M s) (h : Stands M r f n w x) where
     l : r < length M.rhs

@@ -10,7 +10,7 @@ use Rattle.tolerances.specs.Tol.{Term, term}
 use Rattle.definition.specs.Model.{Model, from, upto, nnz, Row, Binding, with_terms}
 use Rattle.definition.specs.Work.{Work, no_term}
 use Rattle.definition.specs.Folds.{swap_remove}
-use Rattle.space.specs.declared.Shape.{Shape}
+use Rattle.space.specs.declared.Context.{Context}
 use Rattle.space.specs.Store.{Floats, Numbers, put_lo, put_hi, put_fold_scale, put_shift, put_coeffs, put_len, put_folded, put_vars}
 use Rattle.view.specs.Call.{Call}
 use Rattle.view.specs.Shows.{Parts, parts_of, TermShown, BindingShown, unbound, is_bound, RowShown}
@@ -91,7 +91,7 @@ binding_same {M} {r = r} e₁ e₂ e₃ e₄ e₅ (is_bound {b} h) =
       kept = ap (λ (l : List Float). get_or l r nan) e₅ ∙ h.kept;
     })
 
-module _ {M : Model} {s : Shape} {r : ℕ} {f : Floats} {n : Numbers} {w : Work} {x : Row} (c : Call M s) (p : r < length M.rhs) (z : Sized s f n) (h : Stands M r f n w x) where
+module _ {M : Model} {s : Context} {r : ℕ} {f : Floats} {n : Numbers} {w : Work} {x : Row} (c : Call M s) (p : r < length M.rhs) (z : Sized s f n) (h : Stands M r f n w x) where
   r_in : r < s.rows
   r_in = omega (arith, p, c.rows)
 

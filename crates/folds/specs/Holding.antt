@@ -11,7 +11,7 @@ use Rattle.definition.specs.declared.Rows.{Rows}
 use Rattle.definition.specs.Model.{Model, Row, Binding, as_written}
 use Rattle.definition.specs.Work.{Work}
 use Rattle.definition.specs.Folds.{fold_loop, bound?, gives_back, relax_binding, hold_rewrites, fold_fixed}
-use Rattle.space.specs.declared.Shape.{Shape}
+use Rattle.space.specs.declared.Context.{Context}
 use Rattle.space.specs.Store.{Floats, Numbers}
 use Rattle.view.specs.Call.{Call}
 use Rattle.view.specs.Shows.{Parts, BindingShown, unbound, is_bound}
@@ -45,7 +45,7 @@ weight_is (unbound e) = rw e
 weight_is {p = p} {r} (is_bound h) = weight_some (get_or p.binaries r 0) (omega (arith, h.count, h.some))
 
 -- ---- what a row stands as after a step
-pub standing_after : {P : Model → Type 0} {s : Shape} {r : ℕ} {f f₁ : Floats} {n n₁ : Numbers} {F : Model → Work → Row → Row} (G : Standing P s r f n)
+pub standing_after : {P : Model → Type 0} {s : Context} {r : ℕ} {f f₁ : Floats} {n n₁ : Numbers} {F : Model → Work → Row → Row} (G : Standing P s r f n)
     → Turns P s r f n f₁ n₁ F → Kept G.model r G.row (F G.model G.work G.row)
     → Standing P s r f₁ n₁
 standing_after {F = F} G t k =
@@ -63,7 +63,7 @@ standing_after {F = F} G t k =
 abbrev pub looped : Model → Work → Row → Row
 looped M w x = (fold_loop (length x.terms) w (0, x)).1
 
-module _ {rows : Rows} {s : Shape} {r : ℕ} {f : Floats} {n : Numbers} (G : Standing (Written rows) s r f n) where
+module _ {rows : Rows} {s : Context} {r : ℕ} {f : Floats} {n : Numbers} (G : Standing (Written rows) s r f n) where
   pub given : Given (Written rows) s
   given = record { model = G.model; known = G.known; call = G.call }
 
@@ -108,7 +108,7 @@ module _ {rows : Rows} {s : Shape} {r : ℕ} {f : Floats} {n : Numbers} (G : Sta
         omega (arith, a, b)
 
 -- ---- hold_rewrites
-pub record Holds (P : Model → Type 0) (s : Shape) (r : ℕ) (f : Floats) (n : Numbers) (f' : Floats) (n' : Numbers) (z : Bool) : Type 0 where
+pub record Holds (P : Model → Type 0) (s : Context) (r : ℕ) (f : Floats) (n : Numbers) (f' : Floats) (n' : Numbers) (z : Bool) : Type 0 where
   pub row : Turns P s r f n f' n' (λ M. hold_rewrites M r)
   pub back : Tells P s r f n z (λ M w x. gives_back x)
 
@@ -134,7 +134,7 @@ unfolding gives_back bound?
 gives_all x b e l h = rw (e, l, h)
 
 -- it is not given back
-held : {P : Model → Type 0} {s : Shape} {r : ℕ} {f : Floats} {n : Numbers} → ((M : Model) (w : Work) (x : Row) → P M → Call M s → Stands M r f n w x → gives_back x ≡ false) → Holds P s r f n f n false
+held : {P : Model → Type 0} {s : Context} {r : ℕ} {f : Floats} {n : Numbers} → ((M : Model) (w : Work) (x : Row) → P M → Call M s → Stands M r f n w x → gives_back x ≡ false) → Holds P s r f n f n false
 unfolding hold_rewrites
 held {P} {s} {r} {f} {n} g =
     record {
@@ -142,7 +142,7 @@ held {P} {s} {r} {f} {n} g =
       back = record { tells = g };
     }
 
-module _ {P : Model → Type 0} {s : Shape} {r : ℕ} (f : Floats) (n : Numbers) {k : ℕ} (ek : k ≡ get_or n.binaries r 0) where
+module _ {P : Model → Type 0} {s : Context} {r : ℕ} (f : Floats) (n : Numbers) {k : ℕ} (ek : k ≡ get_or n.binaries r 0) where
   pub hold_none : k ≡ 0 → Holds P s r f n f n false
   hold_none e = held (λ M w x p c h. gives_none x (unbound_is h.shown.binding (sym ek ∙ e)))
 
@@ -183,7 +183,7 @@ is_false : (b : Bool) → (T b → ⊥) → b ≡ false
 is_false true h = absurd (h tt)
 is_false false h = refl
 
-module _ {P : Model → Type 0} {s : Shape} {r : ℕ} (f : Floats) (n : Numbers) {f₁ : Floats} {n₁ : Numbers} {before after : ℕ}
+module _ {P : Model → Type 0} {s : Context} {r : ℕ} (f : Floats) (n : Numbers) {f₁ : Floats} {n₁ : Numbers} {before after : ℕ}
     (eb : before ≡ get_or n.folded r 0) (t : Turns P s r f n f₁ n₁ looped) (ea : after ≡ get_or n₁.folded r 0) where
   module _ (M : Model) (w : Work) (x : Row) (p : P M) (c : Call M s) (h : Stands M r f n w x) where
     one : OneRow M r (looped M w x) f n f₁ n₁

@@ -8,7 +8,7 @@ use Rattle.floats.specs.Num.{choose, ◌⊕◌, ◌⊖◌, gt, is_finite}
 use Rattle.definition.specs.Model.{Model, nnz, Row, Binding, with_range, with_binding, as_written}
 use Rattle.definition.specs.Work.{Work, with_row, no_row}
 use Rattle.definition.specs.Folds.{fold_loop, bound?, gives_back, with_kept, widen, rewrite_room, fixed_besides, relax_with, relax_binding, given_back, hold_rewrites, fold_fixed}
-use Rattle.space.specs.declared.Shape.{Shape}
+use Rattle.space.specs.declared.Context.{Context}
 use Rattle.view.specs.Call.{Call}
 use Rattle.view.specs.Inv.{BinariesIn, BindingIn, some_in, RowInv}
 use Rattle.view.specs.Acts.{Keeps}
@@ -69,7 +69,7 @@ unfolding choose
 choose_same true x = refl
 choose_same false x = refl
 
-module _ {M : Model} {s : Shape} (r : ℕ) (w : Work) (c : Call M s) (p : r < length M.rhs) where
+module _ {M : Model} {s : Context} (r : ℕ) (w : Work) (c : Call M s) (p : r < length M.rhs) where
   given_folds : FoldsTo (as_written M r) (given_back M r w)
   unfolding given_back as_written
   given_folds = subst (λ (k : ℕ). FoldsTo (as_written M r) (fold_loop k w (0, as_written M r)).1) (written_length c p) (loop_folds w (as_written M r))
@@ -106,7 +106,7 @@ module _ {M : Model} {s : Shape} (r : ℕ) (w : Work) (c : Call M s) (p : r < le
       ap (λ (x : Row). choose (ltb (length (as_written M r).folded) (length row1.folded)) x row1) (hold_unbound M r w row1 u)
       ∙ choose_same (ltb (length (as_written M r).folded) (length row1.folded)) row1 ∙ loop_given
 
-pub fold_fixed_keeps : {P : Model → Type 0} {s : Shape} (r : ℕ) → r < s.rows → Keeps P s (λ M w. with_row r (fold_fixed M r w (get_or w.rows r no_row)) w)
+pub fold_fixed_keeps : {P : Model → Type 0} {s : Context} (r : ℕ) → r < s.rows → Keeps P s (λ M w. with_row r (fold_fixed M r w (get_or w.rows r no_row)) w)
 fold_fixed_keeps r p =
     record {
       keeps = λ M k w h c i.

@@ -8,7 +8,7 @@ use Rattle.floats.specs.Num.{choose, ◌⊕◌, ◌⊖◌, gt, is_finite}
 use Rattle.definition.specs.Model.{Model, from, upto, Row, Binding, with_range, with_binding}
 use Rattle.definition.specs.Work.{Work}
 use Rattle.definition.specs.Folds.{widen, with_kept, rewrite_room, fixed_besides, relax_with, relax_binding}
-use Rattle.space.specs.declared.Shape.{Shape}
+use Rattle.space.specs.declared.Context.{Context}
 use Rattle.space.specs.Store.{Floats, Numbers, put_lo, put_hi, put_kept}
 use Rattle.view.specs.Call.{Call}
 use Rattle.view.specs.Shows.{Parts, parts_of, BindingIs, BindingShown, unbound, is_bound, RowShown}
@@ -36,7 +36,7 @@ unbound_is (unbound e) n = refl
 unbound_is (is_bound h) n = absurd (omega (arith, n, h.count, h.some))
 
 -- ---- one row's floats that no term and no other row reads
-module _ {M : Model} {s : Shape} {r : ℕ} {f : Floats} {n : Numbers} {w : Work} {x : Row} (c : Call M s) (p : r < length M.rhs) (h : Stands M r f n w x) where
+module _ {M : Model} {s : Context} {r : ℕ} {f : Floats} {n : Numbers} {w : Work} {x : Row} (c : Call M s) (p : r < length M.rhs) (h : Stands M r f n w x) where
   r_in : r < s.rows
   r_in = omega (arith, p, c.rows)
 
@@ -222,10 +222,10 @@ module _ {M : Model} {s : Shape} {r : ℕ} {f : Floats} {n : Numbers} {w : Work}
         })
 
 -- ---- widen: the floats alone change
-pub record Widens (s : Shape) (r : ℕ) (kept old : Float) (f f' : Floats) : Type 0 where
+pub record Widens (s : Context) (r : ℕ) (kept old : Float) (f f' : Floats) : Type 0 where
   pub does : (M : Model) (n : Numbers) (w : Work) (x : Row) → Call M s → Stands M r f n w x → OneRow M r (widen kept old x) f n f' n
 
-module _ {s : Shape} (r : ℕ) (kept old : Float) (f : Floats) (p : r < s.rows) {hi : Float} {b : Bool} (eh : hi ≡ get_or f.hi r nan) (eb : b ≡ is_finite hi) where
+module _ {s : Context} (r : ℕ) (kept old : Float) (f : Floats) (p : r < s.rows) {hi : Float} {b : Bool} (eh : hi ≡ get_or f.hi r nan) (eb : b ≡ is_finite hi) where
   module _ (M : Model) (n : Numbers) (w : Work) (x : Row) (c : Call M s) (h : Stands M r f n w x) where
     side_is : {d : Bool} → b ≡ d → is_finite x.hi ≡ d
     side_is e = ap is_finite (sym (eh ∙ h.shown.hi)) ∙ sym eb ∙ e
@@ -279,7 +279,7 @@ pub relax_unbound : (M : Model) (w : Work) (x : Row) → x.binding ≡ none → 
 unfolding relax_binding relax_with
 relax_unbound M w x e = rw e
 
-module _ {s : Shape} {starts : List ℕ} {r : ℕ} (f : Floats) (n : Numbers) (p : r < s.rows) {k : ℕ} (ek : k ≡ get_or n.binaries r 0) where
+module _ {s : Context} {starts : List ℕ} {r : ℕ} (f : Floats) (n : Numbers) (p : r < s.rows) {k : ℕ} (ek : k ≡ get_or n.binaries r 0) where
   pub relax_none : k ≡ 0 → Turns (Spans starts) s r f n f n relax_binding
   relax_none e =
       record {

@@ -11,7 +11,7 @@ use Rattle.floats.specs.Num.{0f}
 use Rattle.definition.specs.Model.{Model, from, Row}
 use Rattle.definition.specs.Work.{Work, no_term, fixed}
 use Rattle.definition.specs.Folds.{fold_step, fold_loop, fold_fixed}
-use Rattle.space.specs.declared.Shape.{Shape}
+use Rattle.space.specs.declared.Context.{Context}
 use Rattle.space.specs.Store.{Floats, Numbers}
 use Rattle.view.specs.Known.{Spans}
 use Rattle.view.specs.Lists.{no}
@@ -113,7 +113,7 @@ module _ {starts : List ℕ} {r : ℕ} {f : Floats} {n : Numbers} (M : Model) (w
   row_still : fold_fixed M r w x ≡ x
   row_still = fold_still M r w x (loop_still (length x.terms) w x 0 (λ j p q. still j (omega (arith, q))))
 
-pub scan_turns : {P : Model → Type 0} {s : Shape} {starts : List ℕ} {r : ℕ} {f : Floats} {n : Numbers} {z : Bool} → ((M : Model) → P M → Spans starts M)
+pub scan_turns : {P : Model → Type 0} {s : Context} {starts : List ℕ} {r : ℕ} {f : Floats} {n : Numbers} {z : Bool} → ((M : Model) → P M → Spans starts M)
     → Scanned starts r f n z → z ≡ false → Turns P s r f n f n (λ M. fold_fixed M r)
 scan_turns {r = r} {f = f} {n = n} q S e =
     record { does = λ M w x p c h. subst (λ (y : Row). OneRow M r y f n f n) (sym (row_still M w x (q M p) h (S.none e))) (one_none h) }

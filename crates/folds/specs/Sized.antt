@@ -1,11 +1,11 @@
 -- The blocks that a row's stores go to, as long as they are in the lent slices.
 use Rattle.std.specs.Prelude.{◌≡◌, List, ℕ, length, Float}
-use Rattle.space.specs.declared.Shape.{Shape}
+use Rattle.space.specs.declared.Context.{Context}
 use Rattle.space.specs.Store.{Floats, Numbers, floats_of, numbers_of, HoldsF, HoldsN}
 use Rattle.space.specs.Blocks.{lo_length, hi_length, fold_scale_length, shift_length, kept_length, coeffs_length, len_length}
 use Rattle.space.specs.Blocks.{folded_length, alive_length, touched_length, binaries_length, vars_length, binary_length}
 
-pub record Sized (s : Shape) (f : Floats) (n : Numbers) : Type 0 where
+pub record Sized (s : Context) (f : Floats) (n : Numbers) : Type 0 where
   pub lo : length f.lo ≡ s.rows
   pub hi : length f.hi ≡ s.rows
   pub fold_scale : length f.fold_scale ≡ s.rows
@@ -20,7 +20,7 @@ pub record Sized (s : Shape) (f : Floats) (n : Numbers) : Type 0 where
   pub vars : length n.vars ≡ s.terms
   pub binary : length n.binary ≡ s.terms
 
-pub sized : (s : Shape) (l : List Float) (k : List ℕ) → HoldsF s l → HoldsN s k → Sized s (floats_of s l) (numbers_of s k)
+pub sized : (s : Context) (l : List Float) (k : List ℕ) → HoldsF s l → HoldsN s k → Sized s (floats_of s l) (numbers_of s k)
 sized s l k h g =
     record {
       lo = lo_length s l h;

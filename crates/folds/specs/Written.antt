@@ -15,7 +15,7 @@ use Rattle.tolerances.specs.Answers.{comparison_of}
 use Rattle.definition.specs.declared.Rows.{Rows}
 use Rattle.definition.specs.Model.{Model, from, upto, nnz, written, op_of, rhs_of, Row, as_written}
 use Rattle.definition.specs.Work.{no_term}
-use Rattle.space.specs.declared.Shape.{Shape}
+use Rattle.space.specs.declared.Context.{Context}
 use Rattle.space.specs.Store.{Floats, Numbers, put_lo, put_hi, put_fold_scale, put_shift, put_coeffs, put_len, put_folded, put_alive, put_touched, put_binaries, put_vars}
 use Rattle.view.specs.Call.{Call}
 use Rattle.view.specs.Shows.{is_one, Parts, parts_of, TermShown, unbound, RowShown}
@@ -39,7 +39,7 @@ eqb_differ (suc x) zero n = eqb-suc-zero x
 eqb_differ (suc x) (suc k) n = eqb-suc-suc x k ∙ eqb_differ x k (λ e. n (ap suc e))
 
 -- a model that the read-only slices have: what a function asks that the working slices need not show anything for
-pub record Given (P : Model → Type 0) (s : Shape) : Type 0 where
+pub record Given (P : Model → Type 0) (s : Context) : Type 0 where
   pub model : Model
   pub known : P model
   pub call : Call model s
@@ -78,7 +78,7 @@ pub sides_in : (op : ℕ) (b : Float) {c d : Comparison} → c ≡ comparison_of
 sides_in op b e g = ap (λ (u : Comparison). sides_by u b) (sym g ∙ e) ∙ sides_byte op b
 
 -- what such a function promises: row r shows X, and the rest shows what it did
-pub record Writes (P : Model → Type 0) (s : Shape) (r : ℕ) (f : Floats) (n : Numbers) (f' : Floats) (n' : Numbers) (X : Model → Row) : Type 0 where
+pub record Writes (P : Model → Type 0) (s : Context) (r : ℕ) (f : Floats) (n : Numbers) (f' : Floats) (n' : Numbers) (X : Model → Row) : Type 0 where
   pub does : (M : Model) → P M → Call M s → OneRow M r (X M) f n f' n'
 
 -- ---- the input row's terms
@@ -101,7 +101,7 @@ span_length l a n h = simp (length-take, length-drop) (omega arith)
 pub span_at : {A : Type 0} (l : List A) (a n k : ℕ) (d : A) → k < n → get_or (take n (drop a l)) k d ≡ get_or l (a + k) d
 span_at l a n k d h = get_or-take n (drop a l) k d h ∙ get_or-drop a l k d
 
-module _ {M : Model} {s : Shape} {r : ℕ} (c : Call M s) (p : r < length M.rhs) where
+module _ {M : Model} {s : Context} {r : ℕ} (c : Call M s) (p : r < length M.rhs) where
   in_index : from M r + nnz M r ≤ length M.index
   in_index = omega (arith, nnz_is M r, c.rise r p, c.last r p)
 
@@ -199,7 +199,7 @@ module _ {A : Type 0} (d : A) (old src l : List A) {a i : ℕ} {x : A} (long : i
   copy_other p h k (inl q) = get_or-set_other l i k x d (λ z. omega arith) ∙ h k (inl q)
   copy_other p h k (inr q) = get_or-set_other l i k x d (λ z. omega arith) ∙ h k (inr (omega arith))
 
-pub copied_more : {s : Shape} {is : List ℕ} {cs : List Float} {a i v : ℕ} {x : Float} {f f₁ f₂ : Floats} {n n₁ n₂ : Numbers} → Copied is cs a i f n f₁ n₁ → Sized s f₁ n₁ → a ≤ i → i < s.terms
+pub copied_more : {s : Context} {is : List ℕ} {cs : List Float} {a i v : ℕ} {x : Float} {f f₁ f₂ : Floats} {n n₁ n₂ : Numbers} → Copied is cs a i f n f₁ n₁ → Sized s f₁ n₁ → a ≤ i → i < s.terms
     → v ≡ get_or is i 0 → n₂ ≡ put_vars i v n₁ → x ≡ get_or cs i nan → f₂ ≡ put_coeffs i x f₁ → Copied is cs a (i + 1) f n f₂ n₂
 copied_more {s} {is} {cs} {a} {i} {v} {x} {f} {f₁} {f₂} {n} {n₁} {n₂} h z p l ev en ex ef =
     let lc : i < length h.new_coeffs = omega (arith, l, z.coeffs, ap (λ (g : Floats). length g.coeffs) h.floats) in
@@ -233,7 +233,7 @@ pub marks_put_lem : (r k : ℕ) (n : Numbers) {n₁ n₂ n₃ n₄ n₅ : Number
 marks_put_lem r k n e₁ e₂ e₃ e₄ e₅ = rw (e₅, e₄, e₃, e₂, e₁)
 
 -- how long the model's lists are, each by itself, and what their places have
-module _ {s : Shape} {M : Model} (c : Call M s) where
+module _ {s : Context} {M : Model} (c : Call M s) where
   pub starts_long : {starts : List ℕ} → M.starts ≡ starts → s.rows + 1 ≤ length starts
   starts_long e = omega (arith, ap length e, c.starts, c.rows)
 
@@ -257,7 +257,7 @@ module _ {s : Shape} {M : Model} (c : Call M s) where
   unfolding upto
   starts_within {r = r} e p = rw (← e) (let z = c.last r (omega (arith, p, c.rows)) in omega (arith, z, c.terms))
 
-module _ {s : Shape} {rows : Rows} where
+module _ {s : Context} {rows : Rows} where
   -- what the read-only slices hold of row r
   module _ (G : Given (Written rows) s) {r : ℕ} (p : r < s.rows) where
     abbrev M₀ : Model

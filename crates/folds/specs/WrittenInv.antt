@@ -6,7 +6,7 @@ use Rattle.std.proofs.Math.Option.{none}
 use Rattle.tolerances.specs.Tol.{Term, zip_terms}
 use Rattle.definition.specs.Model.{Model, from, nnz, written, as_written}
 use Rattle.definition.specs.Work.{has_term}
-use Rattle.space.specs.declared.Shape.{Shape}
+use Rattle.space.specs.declared.Context.{Context}
 use Rattle.view.specs.Call.{Call}
 use Rattle.view.specs.Inv.{Distinct, distinct[], distinct∷, none_in, RowInv}
 use Rattle.folds.specs.Apart.{nnz_is}
@@ -39,7 +39,7 @@ none_count : (g : Term → Bool) (l : List Term) → count_by g (l ++ []) ≡ co
 unfolding count_by
 none_count g l = let z = count_append g l [] in omega (arith, z)
 
-module _ {M : Model} {s : Shape} {r : ℕ} (c : Call M s) (p : r < length M.rhs) where
+module _ {M : Model} {s : Context} {r : ℕ} (c : Call M s) (p : r < length M.rhs) where
   written_distinct : Distinct (written M r)
   unfolding written
   written_distinct =

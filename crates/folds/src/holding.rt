@@ -11,40 +11,52 @@ use crate::folding::fold_loop;
 use crate::relaxing::relax_binding;
 use crate::written::as_written;
 use definition::Rows;
-use space::{Binaries, Folded, Hi, Lo, Shape};
+use space::{Binaries, Context, Folded, Hi, Lo};
 
 // = hold_rewrites: whether the row was given back. It is then folded with no binding.
 #[cycle(fold_fixed_hold_rewrites)]
-pub fn hold_rewrites(rows: Rows, w: &mut [f64], m: &mut [usize], s: Shape, r: usize) -> bool
-    requires r_lt_rows { (r < s.rows) × HoldsF s w.old × HoldsN s m.old }
-    requires standing { Standing (Written rows) s r (floats_of s w.old) (numbers_of s m.old) }
-    ensures { Holds (Written rows.entry) s r
-        (floats_of s w.old) (numbers_of s m.old) (floats_of s w.new) (numbers_of s m.new) result }
+pub fn hold_rewrites(
+    rows: Rows,
+    floats: &mut [f64],
+    numbers: &mut [usize],
+    cx: Context,
+    r: usize,
+) -> bool
+    requires r_lt_rows { (r < cx.rows) × HoldsF cx floats.old × HoldsN cx numbers.old }
+    requires standing { Standing (Written rows) cx r (floats_of cx floats.old) (numbers_of cx numbers.old) }
+    ensures { Holds (Written rows.entry) cx r
+        (floats_of cx floats.old) (numbers_of cx numbers.old) (floats_of cx floats.new) (numbers_of cx numbers.new) result }
 {
-    if space::get::<Binaries>(m, s, r) == 0
-        || floats::is_finite(space::get::<Lo>(w, s, r))
-        || floats::is_finite(space::get::<Hi>(w, s, r))
+    if space::get::<Binaries>(numbers, cx, r) == 0
+        || floats::is_finite(space::get::<Lo>(floats, cx, r))
+        || floats::is_finite(space::get::<Hi>(floats, cx, r))
     {
         return false;
     }
-    as_written(rows, w, m, s, r);
-    fold_fixed(rows, w, m, s, r);
+    as_written(rows, floats, numbers, cx, r);
+    fold_fixed(rows, floats, numbers, cx, r);
     true
 }
 
 // = fold_fixed
 #[cycle(fold_fixed_hold_rewrites)]
-pub(crate) fn fold_fixed(rows: Rows, w: &mut [f64], m: &mut [usize], s: Shape, r: usize)
-    requires r_lt_rows { (r < s.rows) × HoldsF s w.old × HoldsN s m.old }
-    requires standing { Standing (Written rows) s r (floats_of s w.old) (numbers_of s m.old) }
-    ensures { Turns (Written rows.entry) s r
-        (floats_of s w.old) (numbers_of s m.old) (floats_of s w.new) (numbers_of s m.new) (λ M. fold_fixed M r) }
+pub(crate) fn fold_fixed(
+    rows: Rows,
+    floats: &mut [f64],
+    numbers: &mut [usize],
+    cx: Context,
+    r: usize,
+)
+    requires r_lt_rows { (r < cx.rows) × HoldsF cx floats.old × HoldsN cx numbers.old }
+    requires standing { Standing (Written rows) cx r (floats_of cx floats.old) (numbers_of cx numbers.old) }
+    ensures { Turns (Written rows.entry) cx r
+        (floats_of cx floats.old) (numbers_of cx numbers.old) (floats_of cx floats.new) (numbers_of cx numbers.new) (λ M. fold_fixed M r) }
 {
-    let before = space::get::<Folded>(m, s, r);
-    fold_loop(rows.starts, w, m, s, r);
-    let after = space::get::<Folded>(m, s, r);
+    let before = space::get::<Folded>(numbers, cx, r);
+    fold_loop(rows.starts, floats, numbers, cx, r);
+    let after = space::get::<Folded>(numbers, cx, r);
     if before < after {
-        relax_binding(rows.starts, w, m, s, r);
-        hold_rewrites(rows, w, m, s, r);
+        relax_binding(rows.starts, floats, numbers, cx, r);
+        hold_rewrites(rows, floats, numbers, cx, r);
     }
 }

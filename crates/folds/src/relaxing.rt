@@ -8,39 +8,45 @@ ghost use Rattle.folds.specs.Stands.{Standing, Turns};
 ghost use Rattle.folds.specs.Relaxing.{Widens};
 
 use crate::besides::fixed_besides;
-use space::{Binaries, Hi, Kept, Lo, Rewritten, Shape, Written};
+use space::{Binaries, Context, Hi, Kept, Lo, Rewritten, Written};
 
 // = widen
 #[tactic(auto, using(crate::specs::Relaxing::widen_hi, crate::specs::Relaxing::widen_lo, space::specs::Blocks::hi_length, space::specs::Blocks::lo_length))]
-fn widen(w: &mut [f64], s: Shape, r: usize, kept: f64, old: f64)
-    requires { (r < s.rows) × HoldsF s w.old }
-    ensures { Widens s r kept old (floats_of s w.old) (floats_of s w.new) }
+fn widen(floats: &mut [f64], cx: Context, r: usize, kept: f64, old: f64)
+    requires { (r < cx.rows) × HoldsF cx floats.old }
+    ensures { Widens cx r kept old (floats_of cx floats.old) (floats_of cx floats.new) }
 {
-    let hi = space::get::<Hi>(w, s, r);
+    let hi = space::get::<Hi>(floats, cx, r);
     if floats::is_finite(hi) {
-        space::put::<Hi>(w, s, r, hi + (kept - old));
+        space::put::<Hi>(floats, cx, r, hi + (kept - old));
     } else {
-        let lo = space::get::<Lo>(w, s, r);
-        space::put::<Lo>(w, s, r, lo - (kept - old));
+        let lo = space::get::<Lo>(floats, cx, r);
+        space::put::<Lo>(floats, cx, r, lo - (kept - old));
     }
 }
 
 // = relax_binding
-pub(crate) fn relax_binding(starts: &[usize], w: &mut [f64], m: &[usize], s: Shape, r: usize)
-    requires r_lt_rows { (r < s.rows) × HoldsF s w.old × HoldsN s m.now }
-    requires standing { Standing (Spans starts.now) s r (floats_of s w.old) (numbers_of s m.now) }
-    ensures { Turns (Spans starts.now) s r (floats_of s w.old) (numbers_of s m.now) (floats_of s w.new) (numbers_of s m.now) relax_binding }
+pub(crate) fn relax_binding(
+    starts: &[usize],
+    floats: &mut [f64],
+    numbers: &[usize],
+    cx: Context,
+    r: usize,
+)
+    requires r_lt_rows { (r < cx.rows) × HoldsF cx floats.old × HoldsN cx numbers.now }
+    requires standing { Standing (Spans starts.now) cx r (floats_of cx floats.old) (numbers_of cx numbers.now) }
+    ensures { Turns (Spans starts.now) cx r (floats_of cx floats.old) (numbers_of cx numbers.now) (floats_of cx floats.new) (numbers_of cx numbers.now) relax_binding }
 {
-    if space::get::<Binaries>(m, s, r) == 0 {
+    if space::get::<Binaries>(numbers, cx, r) == 0 {
         return;
     }
-    let fixed = fixed_besides(starts, w, m, s, r);
-    let written = space::get::<Written>(w, s, r);
-    let rewritten = space::get::<Rewritten>(w, s, r);
-    let kept = formulas::rewrite_room(s.feas, written, rewritten, fixed);
-    let old = space::get::<Kept>(w, s, r);
+    let fixed = fixed_besides(starts, floats, numbers, cx, r);
+    let written = space::get::<Written>(floats, cx, r);
+    let rewritten = space::get::<Rewritten>(floats, cx, r);
+    let kept = formulas::rewrite_room(cx.feas, written, rewritten, fixed);
+    let old = space::get::<Kept>(floats, cx, r);
     if kept > old {
-        space::put::<Kept>(w, s, r, kept);
-        widen(w, s, r, kept, old);
+        space::put::<Kept>(floats, cx, r, kept);
+        widen(floats, cx, r, kept, old);
     }
 }

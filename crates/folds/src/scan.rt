@@ -9,27 +9,28 @@ ghost use Rattle.folds.specs.Scan.{leaves_at, Scanned};
 use crate::folding::fixed;
 use crate::holding::fold_fixed;
 use definition::Rows;
-use space::{Coeffs, Len, Shape, Vars};
+use space::{Coeffs, Context, Len, Vars};
 
 // Whether the term at place i leaves: its coefficient is zero, or its variable is fixed.
 #[tactic(auto, using(crate::specs::Scan::leaves_zero, crate::specs::Scan::leaves_fixed))]
-fn leaves(w: &[f64], m: &[usize], s: Shape, i: usize) -> bool
-    requires { (i < s.terms) × HoldsF s w.now × HoldsN s m.now × (get_or (numbers_of s m.now).vars i 0 < s.vars) }
-    ensures { result ≡ leaves_at (floats_of s w.now) (numbers_of s m.now) i }
+fn leaves(floats: &[f64], numbers: &[usize], cx: Context, i: usize) -> bool
+    requires { (i < cx.terms) × HoldsF cx floats.now × HoldsN cx numbers.now × (get_or (numbers_of cx numbers.now).vars i 0 < cx.vars) }
+    ensures { result ≡ leaves_at (floats_of cx floats.now) (numbers_of cx numbers.now) i }
 {
-    space::get::<Coeffs>(w, s, i) == 0.0 || fixed(w, s, space::get::<Vars>(m, s, i))
+    space::get::<Coeffs>(floats, cx, i) == 0.0
+        || fixed(floats, cx, space::get::<Vars>(numbers, cx, i))
 }
 
 // Whether some term of a row leaves. A loop and no `any`: tried, the proof of what the closure asks did not close.
-fn folds_any(starts: &[usize], w: &[f64], m: &[usize], s: Shape, r: usize) -> bool
-    requires r_lt_rows { (r < s.rows) × HoldsF s w.now × HoldsN s m.now }
-    requires standing { Standing (Spans starts.now) s r (floats_of s w.now) (numbers_of s m.now) }
-    ensures { Scanned starts.now r (floats_of s w.now) (numbers_of s m.now) result }
+fn folds_any(starts: &[usize], floats: &[f64], numbers: &[usize], cx: Context, r: usize) -> bool
+    requires r_lt_rows { (r < cx.rows) × HoldsF cx floats.now × HoldsN cx numbers.now }
+    requires standing { Standing (Spans starts.now) cx r (floats_of cx floats.now) (numbers_of cx numbers.now) }
+    ensures { Scanned starts.now r (floats_of cx floats.now) (numbers_of cx numbers.now) result }
 {
     let a = starts[r];
-    let n = space::get::<Len>(m, s, r);
+    let n = space::get::<Len>(numbers, cx, r);
     for i in 0..n {
-        if leaves(w, m, s, a + i) {
+        if leaves(floats, numbers, cx, a + i) {
             return true;
         }
     }
@@ -37,13 +38,13 @@ fn folds_any(starts: &[usize], w: &[f64], m: &[usize], s: Shape, r: usize) -> bo
 }
 
 // = fold_fixed
-pub fn fold_row(rows: Rows, w: &mut [f64], m: &mut [usize], s: Shape, r: usize)
-    requires r_lt_rows { (r < s.rows) × HoldsF s w.old × HoldsN s m.old }
-    requires standing { Standing (Written rows) s r (floats_of s w.old) (numbers_of s m.old) }
-    ensures { Turns (Written rows.entry) s r
-        (floats_of s w.old) (numbers_of s m.old) (floats_of s w.new) (numbers_of s m.new) (λ M. fold_fixed M r) }
+pub fn fold_row(rows: Rows, floats: &mut [f64], numbers: &mut [usize], cx: Context, r: usize)
+    requires r_lt_rows { (r < cx.rows) × HoldsF cx floats.old × HoldsN cx numbers.old }
+    requires standing { Standing (Written rows) cx r (floats_of cx floats.old) (numbers_of cx numbers.old) }
+    ensures { Turns (Written rows.entry) cx r
+        (floats_of cx floats.old) (numbers_of cx numbers.old) (floats_of cx floats.new) (numbers_of cx numbers.new) (λ M. fold_fixed M r) }
 {
-    if folds_any(rows.starts, w, m, s, r) {
-        fold_fixed(rows, w, m, s, r);
+    if folds_any(rows.starts, floats, numbers, cx, r) {
+        fold_fixed(rows, floats, numbers, cx, r);
     }
 }

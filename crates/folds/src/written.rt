@@ -8,19 +8,28 @@ ghost use Rattle.view.specs.Known.{Written};
 ghost use Rattle.folds.specs.Written.{Given, Writes, Copied, sides_of, sides_put, marks_put};
 
 use definition::Rows;
-use space::{Alive, Binaries, Coeffs, FoldScale, Folded, Hi, Len, Lo, Shape, Shift, Touched, Vars};
+use space::{
+    Alive, Binaries, Coeffs, Context, FoldScale, Folded, Hi, Len, Lo, Shift, Touched, Vars,
+};
 use tolerances::Comparison;
 
 // The input's terms from place a up to e, all live. A `for` over places: they are written to as well as read, and space
-// alone knows where a term stands in w and m.
-fn write_terms(rows: Rows, w: &mut [f64], m: &mut [usize], s: Shape, a: usize, e: usize)
-    requires a_le_e { (a ≤ e) × (e ≤ s.terms) × (s.terms ≤ length rows.index.now) × (s.terms ≤ length rows.coeff.now) }
-    requires holds_f { HoldsF s w.old × HoldsN s m.old }
-    ensures { Copied rows.entry.index.now rows.entry.coeff.now a e (floats_of s w.old) (numbers_of s m.old) (floats_of s w.new) (numbers_of s m.new) }
+// alone knows where a term stands in floats and numbers.
+fn write_terms(
+    rows: Rows,
+    floats: &mut [f64],
+    numbers: &mut [usize],
+    cx: Context,
+    a: usize,
+    e: usize,
+)
+    requires a_le_e { (a ≤ e) × (e ≤ cx.terms) × (cx.terms ≤ length rows.index.now) × (cx.terms ≤ length rows.coeff.now) }
+    requires holds_f { HoldsF cx floats.old × HoldsN cx numbers.old }
+    ensures { Copied rows.entry.index.now rows.entry.coeff.now a e (floats_of cx floats.old) (numbers_of cx numbers.old) (floats_of cx floats.new) (numbers_of cx numbers.new) }
 {
     for i in a..e {
-        space::put::<Vars>(m, s, i, rows.index[i]);
-        space::put::<Coeffs>(w, s, i, rows.coeff[i]);
+        space::put::<Vars>(numbers, cx, i, rows.index[i]);
+        space::put::<Coeffs>(floats, cx, i, rows.coeff[i]);
     }
 }
 
@@ -40,40 +49,40 @@ fn sides(rows: Rows, r: usize) -> (f64, f64)
 
 // A row's four floats, with nothing folded.
 #[tactic(auto, using(crate::specs::Written::sides_put_lem))]
-fn write_sides(w: &mut [f64], s: Shape, r: usize, lo: f64, hi: f64)
-    requires { (r < s.rows) × HoldsF s w.old }
-    ensures { floats_of s w.new ≡ sides_put r lo hi (floats_of s w.old) }
+fn write_sides(floats: &mut [f64], cx: Context, r: usize, lo: f64, hi: f64)
+    requires { (r < cx.rows) × HoldsF cx floats.old }
+    ensures { floats_of cx floats.new ≡ sides_put r lo hi (floats_of cx floats.old) }
 {
-    space::put::<Lo>(w, s, r, lo);
-    space::put::<Hi>(w, s, r, hi);
-    space::put::<FoldScale>(w, s, r, 0.0);
-    space::put::<Shift>(w, s, r, 0.0);
+    space::put::<Lo>(floats, cx, r, lo);
+    space::put::<Hi>(floats, cx, r, hi);
+    space::put::<FoldScale>(floats, cx, r, 0.0);
+    space::put::<Shift>(floats, cx, r, 0.0);
 }
 
 // A row of n terms, alive, with nothing folded or rewritten.
 #[tactic(auto, using(crate::specs::Written::marks_put_lem))]
-fn write_marks(m: &mut [usize], s: Shape, r: usize, n: usize)
-    requires { (r < s.rows) × HoldsN s m.old }
-    ensures { numbers_of s m.new ≡ marks_put r n (numbers_of s m.old) }
+fn write_marks(numbers: &mut [usize], cx: Context, r: usize, n: usize)
+    requires { (r < cx.rows) × HoldsN cx numbers.old }
+    ensures { numbers_of cx numbers.new ≡ marks_put r n (numbers_of cx numbers.old) }
 {
-    space::put::<Len>(m, s, r, n);
-    space::put::<Folded>(m, s, r, 0);
-    space::put::<Alive>(m, s, r, 1);
-    space::put::<Touched>(m, s, r, 0);
-    space::put::<Binaries>(m, s, r, 0);
+    space::put::<Len>(numbers, cx, r, n);
+    space::put::<Folded>(numbers, cx, r, 0);
+    space::put::<Alive>(numbers, cx, r, 1);
+    space::put::<Touched>(numbers, cx, r, 0);
+    space::put::<Binaries>(numbers, cx, r, 0);
 }
 
 // = as_written
-pub fn as_written(rows: Rows, w: &mut [f64], m: &mut [usize], s: Shape, r: usize)
-    requires r_lt_rows { (r < s.rows) × HoldsF s w.old × HoldsN s m.old }
-    requires given { Given (Written rows) s }
-    ensures { Writes (Written rows.entry) s r
-        (floats_of s w.old) (numbers_of s m.old) (floats_of s w.new) (numbers_of s m.new) (λ M. as_written M r) }
+pub fn as_written(rows: Rows, floats: &mut [f64], numbers: &mut [usize], cx: Context, r: usize)
+    requires r_lt_rows { (r < cx.rows) × HoldsF cx floats.old × HoldsN cx numbers.old }
+    requires given { Given (Written rows) cx }
+    ensures { Writes (Written rows.entry) cx r
+        (floats_of cx floats.old) (numbers_of cx numbers.old) (floats_of cx floats.new) (numbers_of cx numbers.new) (λ M. as_written M r) }
 {
     let a = rows.starts[r];
     let e = rows.starts[r + 1];
-    write_terms(rows, w, m, s, a, e);
+    write_terms(rows, floats, numbers, cx, a, e);
     let (lo, hi) = sides(rows, r);
-    write_sides(w, s, r, lo, hi);
-    write_marks(m, s, r, e - a);
+    write_sides(floats, cx, r, lo, hi);
+    write_marks(numbers, cx, r, e - a);
 }

@@ -8,7 +8,7 @@ use Rattle.definition.specs.Model.{Model}
 use Rattle.definition.specs.Work.{Work, no_term, has_term}
 use Rattle.definition.specs.Bounds.{fix}
 use Rattle.definition.specs.Forcing.{corner, fix_all}
-use Rattle.space.specs.declared.Shape.{Shape}
+use Rattle.space.specs.declared.Context.{Context}
 use Rattle.space.specs.Store.{Floats, Numbers}
 use Rattle.formulas.specs.Forcing.{corner_of, corner_of_lem}
 use Rattle.view.specs.Shows.{Shows}
@@ -24,7 +24,7 @@ use Rattle.rows.specs.Steps.{acts_as}
 use Rattle.rows.specs.Loop.{Turning, turning_start, term_still, len_is}
 
 -- ---- fix_term
-pub fix_corner : {P : Model → Type 0} {s : Shape} {f f' : Floats} {n n' : Numbers} (minCorner : Bool) (v : ℕ) (a : Float) {lo hi x : Float}
+pub fix_corner : {P : Model → Type 0} {s : Context} {f f' : Floats} {n n' : Numbers} (minCorner : Bool) (v : ℕ) (a : Float) {lo hi x : Float}
     → lo ≡ get_or f.elo v nan → hi ≡ get_or f.ehi v nan → x ≡ corner_of minCorner a lo hi
     → Acts P s f n f' n' (λ M. fix M v x) → Acts P s f n f' n' (λ M w. fix M v (corner minCorner w (term v a)) w)
 fix_corner minCorner v a {lo} {hi} {x} e₁ e₂ e₃ t =
@@ -63,7 +63,7 @@ pub record Fixing (r : ℕ) (minCorner : Bool) (i : ℕ) (M : Model) (w u : Work
 pub fixing_rows : {r : ℕ} {minCorner : Bool} {i : ℕ} (M : Model) (w u : Work) → Fixing r minCorner i M w u → u.rows ≡ w.rows
 fixing_rows M w u k = k.rows
 
-pub fixing_start : {P : Model → Type 0} {s : Shape} {f : Floats} {n : Numbers} {r : ℕ} {minCorner : Bool} → Turning P s f n f n (Fixing r minCorner 0)
+pub fixing_start : {P : Model → Type 0} {s : Context} {f : Floats} {n : Numbers} {r : ℕ} {minCorner : Bool} → Turning P s f n f n (Fixing r minCorner 0)
 fixing_start = turning_start (λ M w. record { rows = refl; los = λ j p q. refl; his = λ j p q. refl; rest = refl })
 
 all_cons : (M : Model) (minCorner : Bool) (w : Work) (t : Term) (ts : List Term) (u : Work) → fix_all M minCorner w (t ∷ ts) u ≡ fix_all M minCorner w ts (fix M t.var (corner minCorner w t) u)
@@ -116,7 +116,7 @@ module _ (M : Model) (r : ℕ) (minCorner : Bool) (i v : ℕ) (y : Float) (w u :
             ∙ K.rest;
       }
 
-module _ {P : Model → Type 0} {s : Shape} {f₀ f : Floats} {n₀ n : Numbers} {ss : List ℕ} {r : ℕ} {minCorner : Bool} {i : ℕ} (q : (M : Model) → P M → Spans ss M)
+module _ {P : Model → Type 0} {s : Context} {f₀ f : Floats} {n₀ n : Numbers} {ss : List ℕ} {r : ℕ} {minCorner : Bool} {i : ℕ} (q : (M : Model) → P M → Spans ss M)
     (p : r < s.rows) (a : Alive n₀ r) (T : Turning P s f₀ n₀ f n (Fixing r minCorner i)) where
   pub fixing_turn : {f' : Floats} {n' : Numbers} {l v : ℕ} {y : Float} → l ≡ get_or n₀.len r 0 → i < l → v ≡ get_or n.vars (get_or ss r 0 + i) 0 → y ≡ get_or f.coeffs (get_or ss r 0 + i) nan
       → Acts P s f n f' n' (λ M u. fix M v (corner minCorner u (term v y)) u) → Turning P s f₀ n₀ f' n' (Fixing r minCorner (i + 1))
@@ -151,7 +151,7 @@ unfolding fix_all
 inv_fix_all minCorner w [] u i = i
 inv_fix_all {M} minCorner w (t ∷ ts) u i = inv_fix_all minCorner w ts (fix M t.var (corner minCorner w t) u) (inv_fix t.var u i (corner minCorner w t))
 
-pub fix_all_keeps : {P : Model → Type 0} {s : Shape} (minCorner : Bool) (r : ℕ) → Keeps P s (λ M w. fix_all M minCorner w (row_of w r).terms w)
+pub fix_all_keeps : {P : Model → Type 0} {s : Context} (minCorner : Bool) (r : ℕ) → Keeps P s (λ M w. fix_all M minCorner w (row_of w r).terms w)
 fix_all_keeps minCorner r = record { keeps = λ M k w p c i. inv_fix_all minCorner w (row_of w r).terms w i }
 
 pub fix_all_leaves : {A : Type 0} {g : Work → A} → Blind g → (M : Model) (minCorner : Bool) (w : Work) (ts : List Term) (u : Work) → g (fix_all M minCorner w ts u) ≡ g u

@@ -13,7 +13,7 @@ use Rattle.definition.specs.Model.{Model, is_int}
 use Rattle.definition.specs.Work.{Work, no_term}
 use Rattle.definition.specs.Sides.{mag_l, mag_u, near_min, near_max}
 use Rattle.definition.specs.Forcing.{forced_term, all_forced, forcing_at, forces_min, forces_max}
-use Rattle.space.specs.declared.Shape.{Shape}
+use Rattle.space.specs.declared.Context.{Context}
 use Rattle.space.specs.Store.{Floats, Numbers}
 use Rattle.formulas.specs.declared.Limits.{Limits}
 use Rattle.formulas.specs.Bare.{bare, Says, near_min_of, near_max_of, mag_l_of, mag_u_of}
@@ -32,7 +32,7 @@ use Rattle.readers.specs.RowAt.{row_at, row_ready, live_place}
 use Rattle.rows.specs.Knowing.{Looks, looks_spans, looks_domains, of_limits}
 
 -- ---- forced_term
-pub forced_is : {lists : Lists} {s : Shape} {f : Floats} (r v : ℕ) (a sliver mag : Float) {x : Limits} {k : ℕ} {int z : Bool} {lo hi : Float}
+pub forced_is : {lists : Lists} {s : Context} {f : Floats} (r v : ℕ) (a sliver mag : Float) {x : Limits} {k : ℕ} {int z : Bool} {lo hi : Float}
     → ReadsLimits s f r k x → k ≡ get_or lists.rows.starts.now (r + 1) 0 - get_or lists.rows.starts.now r 0 → ReadsM (Domains lists.domain.now) s int (λ M. is_int M v)
     → lo ≡ get_or f.elo v nan → hi ≡ get_or f.ehi v nan → Says x.feas x.terms z (λ M q. forced_by M q int a lo hi sliver mag) → ReadsF (Looks lists) s f z (λ M w. forced_term M r sliver mag w (term v a))
 forced_is r v a sliver mag lim ek ei e₁ e₂ ez =
@@ -51,7 +51,7 @@ unfolding all_forced
 forced_cons M r sliver mag w t ts = refl
 
 -- a live term's place is small
-pub live_small : {P : Model → Type 0} {s : Shape} {f : Floats} {n : Numbers} {ss : List ℕ} {r i l : ℕ} → Ready P s f n → ((M : Model) → P M → Spans ss M)
+pub live_small : {P : Model → Type 0} {s : Context} {f : Floats} {n : Numbers} {ss : List ℕ} {r i l : ℕ} → Ready P s f n → ((M : Model) → P M → Spans ss M)
     → r < s.rows → Alive n r → l ≡ get_or n.len r 0 → i < l → get_or ss r 0 + i < 65536
 live_small {i = i} R q p a el il = omega (arith, live_place R q p a {j = i} (omega (arith, el, il)), (row_ready R q p a).small)
 
@@ -73,14 +73,14 @@ module _ (M : Model) (r : ℕ) (sliver mag : Float) (w : Work) where
 abbrev live_term : List ℕ → Floats → Numbers → ℕ → ℕ → Term
 live_term ss f n r i = term (get_or n.vars (get_or ss r 0 + i) 0) (get_or f.coeffs (get_or ss r 0 + i) nan)
 
-pub record Told (lists : Lists) (s : Shape) (f : Floats) (n : Numbers) (r : ℕ) (sliver mag : Float) (z : Bool) (i : ℕ) : Type 0 where
+pub record Told (lists : Lists) (s : Context) (f : Floats) (n : Numbers) (r : ℕ) (sliver mag : Float) (z : Bool) (i : ℕ) : Type 0 where
   pub told : ReadsF (Looks lists) s f z (λ M w. forced_term M r sliver mag w (live_term lists.rows.starts.now f n r i))
 
-pub told_of : {lists : Lists} {s : Shape} {f : Floats} {n : Numbers} {r i v : ℕ} {sliver mag y : Float} {z b : Bool} → ReadsF (Looks lists) s f b (λ M w. forced_term M r sliver mag w (term v y))
+pub told_of : {lists : Lists} {s : Context} {f : Floats} {n : Numbers} {r i v : ℕ} {sliver mag y : Float} {z b : Bool} → ReadsF (Looks lists) s f b (λ M w. forced_term M r sliver mag w (term v y))
     → z ≡ b → v ≡ get_or n.vars (get_or lists.rows.starts.now r 0 + i) 0 → y ≡ get_or f.coeffs (get_or lists.rows.starts.now r 0 + i) nan → Told lists s f n r sliver mag z i
 told_of t ez ev ey = record { told = record { reads = λ M n o k w p c h i. cc (ez, ev, ey, t.reads M n o k w p c h i) } }
 
-module _ {lists : Lists} {s : Shape} {f : Floats} {n : Numbers} {r l : ℕ} (p : r < s.rows) (a : Alive n r) (el : l ≡ get_or n.len r 0) (sliver mag : Float) where
+module _ {lists : Lists} {s : Context} {f : Floats} {n : Numbers} {r l : ℕ} (p : r < s.rows) (a : Alive n r) (el : l ≡ get_or n.len r 0) (sliver mag : Float) where
   module _ {M : Model} {o : List ℕ} {k : ℕ} {w : Work} (q : Looks lists M) (c : Call M s) (h : Shows M f n o w) (j : Inv M k w) where
     asked_of : {z : Bool} (i : ℕ) → i < length (row_of w r).terms → Told lists s f n r sliver mag z i → forced_term M r sliver mag w (get_or (row_of w r).terms i no_term) ≡ z
     asked_of i m t =
@@ -115,7 +115,7 @@ module _ {lists : Lists} {s : Shape} {f : Floats} {n : Numbers} {r l : ℕ} (p :
       }
 
 -- ---- forcing_at
-module _ {lists : Lists} {s : Shape} {f : Floats} (r : ℕ) (sliver mag : Float) {x : Limits} {k : ℕ} {b : Bool} (lim : ReadsLimits s f r k x)
+module _ {lists : Lists} {s : Context} {f : Floats} (r : ℕ) (sliver mag : Float) {x : Limits} {k : ℕ} {b : Bool} (lim : ReadsLimits s f r k x)
     (ek : k ≡ get_or lists.rows.starts.now (r + 1) 0 - get_or lists.rows.starts.now r 0) (eb : Says x.feas x.terms b (λ M q. sliver_fits M q sliver mag)) where
   fits_is : {M : Model} (w : Work) (ts : List Term) → Looks lists M → Call M s → forcing_at M r sliver mag w ts ≡ (b && all_forced M r sliver mag w ts)
   fits_is {M} w ts p c = sym (forcing_of M r sliver mag w ts) ∙ ap (λ (y : Bool). y && all_forced M r sliver mag w ts) (sym (eb.of M r (of_limits lim c (looks_spans M p) ek)))
@@ -129,7 +129,7 @@ module _ {lists : Lists} {s : Shape} {f : Floats} (r : ℕ) (sliver mag : Float)
       record { reads = λ M o k w p c h i. fits_is w (row_of w r).terms p c ∙ ap (λ (y : Bool). y && all_forced M r sliver mag w (row_of w r).terms) e ∙ t.reads M o k w p c h i }
 
 -- ---- forces_min and forces_max
-module _ {lists : Lists} {s : Shape} {f : Floats} {n : Numbers} (r : ℕ) (act e : Activity) {x : Limits} {l : ℕ} {b : Bool} (a : Alive n r)
+module _ {lists : Lists} {s : Context} {f : Floats} {n : Numbers} (r : ℕ) (act e : Activity) {x : Limits} {l : ℕ} {b : Bool} (a : Alive n r)
     (lim : ReadsLimits s f r l x) (el : l ≡ get_or lists.rows.starts.now (r + 1) 0 - get_or lists.rows.starts.now r 0) where
   module _ (eb : Says x.feas x.terms b (λ M q. near_min M q (bare x) act)) where
     near_min_is : {M : Model} {o : List ℕ} {w : Work} → Looks lists M → Call M s → Shows M f n o w → near_min M r (row_of w r) act ≡ b
@@ -186,7 +186,7 @@ module _ {lists : Lists} {s : Shape} {f : Floats} {n : Numbers} (r : ℕ) (act e
         }
 
 -- by the corner
-module _ {P : Model → Type 0} {s : Shape} {f : Floats} {n : Numbers} {z minCorner : Bool} (F G : Model → Work → Bool) where
+module _ {P : Model → Type 0} {s : Context} {f : Floats} {n : Numbers} {z minCorner : Bool} (F G : Model → Work → Bool) where
   pub at_min : minCorner ≡ true → Reads P s f n z F → Reads P s f n z (λ M w. choose minCorner (F M w) (G M w))
   at_min e t = record { reads = λ M o k w p c h i. yes _ _ e ∙ t.reads M o k w p c h i }
 

@@ -8,7 +8,7 @@ use Rattle.definition.specs.declared.Infeasible.{Infeasible}
 use Rattle.definition.specs.Model.{Model, Row}
 use Rattle.definition.specs.Work.{Work, Step, next, ◌>>=◌, no_term}
 use Rattle.definition.specs.Implied.{implied_term, implied_bounds}
-use Rattle.space.specs.declared.Shape.{Shape}
+use Rattle.space.specs.declared.Context.{Context}
 use Rattle.space.specs.Store.{Floats, Numbers}
 use Rattle.formulas.specs.declared.Limits.{Limits}
 use Rattle.formulas.specs.Bare.{bare, Has}
@@ -54,7 +54,7 @@ pub record Implying (r : ℕ) (act : Activity) (i : ℕ) (M : Model) (w u : Work
 pub implying_rows : {r : ℕ} {act : Activity} {i : ℕ} (M : Model) (w u : Work) → Implying r act i M w u → u.rows ≡ w.rows
 implying_rows M w u k = k.rows
 
-pub implying_start : {P : Model → Type 0} {s : Shape} {f : Floats} {n : Numbers} {r : ℕ} {act : Activity} → Turning P s f n f n (Implying r act 0)
+pub implying_start : {P : Model → Type 0} {s : Context} {f : Floats} {n : Numbers} {r : ℕ} {act : Activity} → Turning P s f n f n (Implying r act 0)
 implying_start = turning_start (λ M w. record { rows = refl; rest = refl })
 
 -- the terms that are left, as the code has the first of them
@@ -65,7 +65,7 @@ left_is M r row act i t u hx m e =
     ∙ bounds_cons M r row act t (drop (suc i) row.terms) u
     ∙ ap (λ (z : Step). z >>= λ w1. implied_bounds M r row act (drop (suc i) row.terms) w1) (sym (term_has M r hx act t u))
 
-module _ {P : Model → Type 0} {s : Shape} {f₀ f : Floats} {n₀ n : Numbers} {ss : List ℕ} {r : ℕ} {act : Activity} {i : ℕ} (q : (M : Model) → P M → Spans ss M)
+module _ {P : Model → Type 0} {s : Context} {f₀ f : Floats} {n₀ n : Numbers} {ss : List ℕ} {r : ℕ} {act : Activity} {i : ℕ} (q : (M : Model) → P M → Spans ss M)
     (p : r < s.rows) (a : Alive n₀ r) (T : Turning P s f₀ n₀ f n (Implying r act i)) where
   module _ {f' : Floats} {n' : Numbers} {x : Limits} {l v terms : ℕ} {y : Float} (lim : ReadsLimits s f₀ r terms x) (el : l ≡ get_or n₀.len r 0) (il : i < l)
       (ev : v ≡ get_or n.vars (get_or ss r 0 + i) 0) (ey : y ≡ get_or f.coeffs (get_or ss r 0 + i) nan) where

@@ -14,7 +14,7 @@ use Rattle.definition.specs.Model.{Model, Row, range_min, range_max}
 use Rattle.definition.specs.Work.{Work, Step, stop, next, ◌>>=◌}
 use Rattle.definition.specs.Bounds.{tighten_upper, tighten_lower}
 use Rattle.definition.specs.Implied.{rest_of, implied, implied_term}
-use Rattle.space.specs.declared.Shape.{Shape}
+use Rattle.space.specs.declared.Context.{Context}
 use Rattle.space.specs.Store.{Floats, Numbers}
 use Rattle.formulas.specs.declared.Limits.{Limits}
 use Rattle.formulas.specs.declared.Side.{Side}
@@ -60,7 +60,7 @@ unfolding from_rest
 rest_some M upper r row side c t rest w = implied_of M upper r row side c t rest w
 
 -- ---- a bound that leaves its variable as it is
-pub record Still (domain : List ℕ) (s : Shape) (f : Floats) (side : Side) (v : ℕ) (q : Float) (above : Bool) : Type 0 where
+pub record Still (domain : List ℕ) (s : Context) (f : Floats) (side : Side) (v : ℕ) (q : Float) (above : Bool) : Type 0 where
   pub relaxes : Relaxes s.feas side.abs side.slack
   pub stays : Stays domain s f v q above
 
@@ -121,7 +121,7 @@ module _ {M : Model} {k : ℕ} (upper : Bool) (r : ℕ) (row : Row) (side : Side
   unfolding side_step
   inv_side i = either (InvStep M k) _ (λ e. inv_rest (rest_of side.sum side.ninf c) i) (λ e. goes i)
 
-pub side_keeps : {P : Model → Type 0} {s : Shape} (upper : Bool) (r : ℕ) (row : Row) (side : Side) (c : Float) (t : Term) → KeepsStep P s (λ M. side_step M upper r row side c t)
+pub side_keeps : {P : Model → Type 0} {s : Context} (upper : Bool) (r : ℕ) (row : Row) (side : Side) (c : Float) (t : Term) → KeepsStep P s (λ M. side_step M upper r row side c t)
 side_keeps upper r row side c t = record { keeps = λ M k w p q i. inv_side upper r row side c t w i }
 
 module _ {A : Type 0} {g : Work → A} (b : Blind g) (M : Model) (upper : Bool) (r : ℕ) (row : Row) (side : Side) (c : Float) (t : Term) (w : Work) where
@@ -158,15 +158,15 @@ module _ (upper : Bool) (r : ℕ) (row : Row) (side : Side) (c : Float) (t : Ter
   half_is : {y : std.Option Float} → z ≡ y → (M : Model) (w : Work) → side_step M upper r row side c t w ≡ from_rest M upper r row side c t (rest_is y) w
   half_is e M w = side_is M upper r row side c t w ∙ ap (λ (y : Option Float). from_rest M upper r row side c t y w) (sym g ∙ ap rest_is e)
 
-  pub half_none : {P : Model → Type 0} {s : Shape} {f : Floats} {n : Numbers} → z ≡ std.None → Tries P s f n f n (Ok tt) (λ M. side_step M upper r row side c t)
+  pub half_none : {P : Model → Type 0} {s : Context} {f : Floats} {n : Numbers} → z ≡ std.None → Tries P s f n f n (Ok tt) (λ M. side_step M upper r row side c t)
   half_none e = record { does = λ M o k w p d h i. went_by (half_is e M w ∙ rest_none M upper r row side c t w) h }
 
-  pub half_some : {P : Model → Type 0} {s : Shape} {f f' : Floats} {n n' : Numbers} {y : Outcome} {rest : Float} → z ≡ std.Some rest → Tries P s f n f' n' y (λ M. from_rest M upper r row side c t (some rest))
+  pub half_some : {P : Model → Type 0} {s : Context} {f f' : Floats} {n n' : Numbers} {y : Outcome} {rest : Float} → z ≡ std.Some rest → Tries P s f n f' n' y (λ M. from_rest M upper r row side c t (some rest))
       → Tries P s f n f' n' y (λ M. side_step M upper r row side c t)
   half_some e k = tries_as (λ M o j w p d h i. half_is e M w) k
 
 -- ---- a bound that leaves its variable as it is
-module _ {lists : Lists} {s : Shape} {f : Floats} {n : Numbers} (upper : Bool) (r : ℕ) (x : Limits) (side : Side) (c : Float) (v : ℕ) (a rest : Float)
+module _ {lists : Lists} {s : Context} {f : Floats} {n : Numbers} (upper : Bool) (r : ℕ) (x : Limits) (side : Side) (c : Float) (v : ℕ) (a rest : Float)
     {q : Float} {b : Bool} (eq : q ≡ quotient_of side.bound rest a) (eb : b ≡ bounds_above upper a) where
   rest_still : Held a → Still lists.domain.now s f side v q b → Tries (Moves lists) s f n f n (Ok tt) (λ M. from_rest M upper r (bare x) side c (term v a) (some rest))
   rest_still ha t =
@@ -183,12 +183,12 @@ module _ {lists : Lists} {s : Shape} {f : Floats} {n : Numbers} (upper : Bool) (
 
 -- ---- a bound that may move, by the side's direction
 -- the row's limits are of the call and of the row
-of_these : {M : Model} {s : Shape} {ss : List ℕ} {r : ℕ} (x : Limits) → x.feas ≡ s.feas → x.terms ≡ get_or ss (r + 1) 0 - get_or ss r 0 → Call M s → Spans ss M → Of M r x.feas x.terms
+of_these : {M : Model} {s : Context} {ss : List ℕ} {r : ℕ} (x : Limits) → x.feas ≡ s.feas → x.terms ≡ get_or ss (r + 1) 0 - get_or ss r 0 → Call M s → Spans ss M → Of M r x.feas x.terms
 of_these x ef et c e =
     let o = of_call c e et in
     record { feas = o.feas ∙ sym ef; terms = o.terms; params = o.params }
 
-module _ {lists : Lists} {s : Shape} {f f' : Floats} {n n' : Numbers} {z : Outcome} (upper : Bool) (r : ℕ) (x : Limits) (side : Side) (c : Float) (v : ℕ) (a rest : Float)
+module _ {lists : Lists} {s : Context} {f f' : Floats} {n n' : Numbers} {z : Outcome} (upper : Bool) (r : ℕ) (x : Limits) (side : Side) (c : Float) (v : ℕ) (a rest : Float)
     {q relax : Float} {b : Bool} (eq : q ≡ quotient_of side.bound rest a) (ef : x.feas ≡ s.feas) (et : x.terms ≡ get_or lists.rows.starts.now (r + 1) 0 - get_or lists.rows.starts.now r 0)
     (er : Says x.feas x.terms relax (λ M r'. relax_of M r' (bare x) side c rest a)) (eb : b ≡ bounds_above upper a) where
   pub rest_tightens : Tries (Bounding lists) s f n f' n' z (tightens v q relax b) → Tries (Moves lists) s f n f' n' z (λ M. from_rest M upper r (bare x) side c (term v a) (some rest))
@@ -203,10 +203,10 @@ module _ {lists : Lists} {s : Shape} {f f' : Floats} {n n' : Numbers} {z : Outco
       (tries_under moves_bounding t)
 
 -- ---- quiet: a half that changes nothing, whatever row it is of
-pub record Quiet (ds : List ℕ) (s : Shape) (f : Floats) (side : Side) (upper : Bool) (c : Float) (v : ℕ) (a : Float) : Type 0 where
+pub record Quiet (ds : List ℕ) (s : Context) (f : Floats) (side : Side) (upper : Bool) (c : Float) (v : ℕ) (a : Float) : Type 0 where
   pub quiet : (lists : Lists) (n : Numbers) (r : ℕ) (x : Limits) → lists.domain.now ≡ ds → Tries (Moves lists) s f n f n (Ok tt) (λ M. side_step M upper r (bare x) side c (term v a))
 
-module _ {ds : List ℕ} {s : Shape} {f : Floats} (upper : Bool) (side : Side) (c : Float) (v : ℕ) (a : Float) {z : std.Option Float} (g : rest_is z ≡ rest_at side c) where
+module _ {ds : List ℕ} {s : Context} {f : Floats} (upper : Bool) (side : Side) (c : Float) (v : ℕ) (a : Float) {z : std.Option Float} (g : rest_is z ≡ rest_at side c) where
   pub quiet_none : z ≡ std.None → Quiet ds s f side upper c v a
   quiet_none u = record { quiet = λ lists n r x d. half_none upper r (bare x) side c (term v a) g u }
 
@@ -231,7 +231,7 @@ module _ {f : Floats} (r : ℕ) (x : Limits) (act : Activity) (v : ℕ) (a : Flo
       ∙ ap (λ (y : Side). both M r (bare x) y (lo_of (bare x) act) cmin cmax (term v a) w) (sym e₅)
       ∙ ap (λ (y : Side). both M r (bare x) high y cmin cmax (term v a) w) (sym e₆)
 
-  module _ {P : Model → Type 0} {s : Shape} {n : Numbers} where
+  module _ {P : Model → Type 0} {s : Context} {n : Numbers} where
     -- the second half after the first, and a first half that stops
     pub term_then : {n₁ n₂ : Numbers} {f₁ f₂ : Floats} {z : Outcome} → Tries P s f n f₁ n₁ (Ok tt) (λ M. side_step M true r (bare x) high cmin (term v a))
         → Tries P s f₁ n₁ f₂ n₂ z (λ M. side_step M false r (bare x) low cmax (term v a)) → Tries P s f n f₂ n₂ z (λ M. implied_term M r (bare x) act (term v a))
@@ -243,6 +243,6 @@ module _ {f : Floats} (r : ℕ) (x : Limits) (act : Activity) (v : ℕ) (a : Flo
     unfolding both
     term_stop t = tries_as (λ M o k w p d y i. term_is y) (tries_stop (λ M. side_step M false r (bare x) low cmax (term v a)) t)
 
-  pub term_quiet : {lists : Lists} {s : Shape} {n : Numbers} → Quiet lists.domain.now s f high true cmin v a → Quiet lists.domain.now s f low false cmax v a
+  pub term_quiet : {lists : Lists} {s : Context} {n : Numbers} → Quiet lists.domain.now s f high true cmin v a → Quiet lists.domain.now s f low false cmax v a
       → Tries (Moves lists) s f n f n (Ok tt) (λ M. implied_term M r (bare x) act (term v a))
   term_quiet {lists} {s} {n} p q = term_then (p.quiet lists n r x refl) (q.quiet lists n r x refl)

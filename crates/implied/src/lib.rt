@@ -20,7 +20,7 @@ ghost use Rattle.implied.specs.Sides.{Quiet, rest_at, side_step};
 
 use definition::{Activity, Infeasible};
 use formulas::{Limits, Side};
-use space::{Coeffs, Len, Shape, Vars, Whi, Wlo, get};
+use space::{Coeffs, Context, Len, Vars, Whi, Wlo, get};
 use view::Lists;
 
 // A half of what a row says of a term: one side of the row, the upper one where upper, and the term, variable v by coefficient a,
@@ -49,15 +49,15 @@ impl Half {
 
     // Whether the half changes nothing: there is no rest, or what it implies leaves the variable as it is, whatever the row's
     // magnitude relaxes it by.
-    fn quiet(self, domain: &[u8], w: &[f64], s: Shape) -> bool
-        requires { (self.v < s.vars) × HoldsF s w.now × (self.v < length domain.now) }
-        ensures { result ≡ true → Quiet domain.now s (floats_of s w.now) self.side self.upper self.c self.v self.a }
+    fn quiet(self, domain: &[u8], floats: &[f64], cx: Context) -> bool
+        requires { (self.v < cx.vars) × HoldsF cx floats.now × (self.v < length domain.now) }
+        ensures { result ≡ true → Quiet domain.now cx (floats_of cx floats.now) self.side self.upper self.c self.v self.a }
     {
         match self.rest() {
             Some(rest) => {
                 let q = self.side.quotient(rest, self.a);
                 let above = formulas::bounds_above(self.upper, self.a);
-                self.side.relaxes(s.feas) && bounds::stays(domain, w, s, self.v, q, above)
+                self.side.relaxes(cx.feas) && bounds::stays(domain, floats, cx, self.v, q, above)
             }
             None => true,
         }
@@ -68,16 +68,16 @@ impl Half {
     fn tighten(
         self,
         lists: Lists,
-        w: &mut [f64],
-        m: &mut [usize],
-        s: Shape,
+        floats: &mut [f64],
+        numbers: &mut [usize],
+        cx: Context,
         r: usize,
         x: Limits,
     ) -> Result<(), Infeasible>
-        requires v_lt_vars { (self.v < s.vars) × HoldsF s w.old × HoldsN s m.old }
-        requires ready { Ready (Moves lists) s (floats_of s w.old) (numbers_of s m.old) }
-        requires limits { (x.feas ≡ s.feas) × (x.terms ≡ get_or lists.rows.starts.now (r + 1) 0 - get_or lists.rows.starts.now r 0) }
-        ensures { Tries (Moves lists.entry) s (floats_of s w.old) (numbers_of s m.old) (floats_of s w.new) (numbers_of s m.new)
+        requires v_lt_vars { (self.v < cx.vars) × HoldsF cx floats.old × HoldsN cx numbers.old }
+        requires ready { Ready (Moves lists) cx (floats_of cx floats.old) (numbers_of cx numbers.old) }
+        requires limits { (x.feas ≡ cx.feas) × (x.terms ≡ get_or lists.rows.starts.now (r + 1) 0 - get_or lists.rows.starts.now r 0) }
+        ensures { Tries (Moves lists.entry) cx (floats_of cx floats.old) (numbers_of cx numbers.old) (floats_of cx floats.new) (numbers_of cx numbers.new)
             result (λ M. side_step M self.upper r (bare x) self.side self.c (term self.v self.a)) }
     {
         match self.rest() {
@@ -85,7 +85,7 @@ impl Half {
                 let q = self.side.quotient(rest, self.a);
                 let above = formulas::bounds_above(self.upper, self.a);
                 let relax = x.relaxation(self.side, self.c, rest, self.a);
-                bounds::tighten(lists, w, m, s, self.v, q, relax, above)
+                bounds::tighten(lists, floats, numbers, cx, self.v, q, relax, above)
             }
             None => Ok(()),
         }
@@ -93,27 +93,27 @@ impl Half {
 }
 
 // = implied_term: both parts of the term are taken before either side. Mostly neither half changes anything, which is seen
-// before either is gone through. lists, w, m, s and r are every step's (space says why they stay apart), x and act the row's. v and a,
+// before either is gone through. lists, floats, numbers, cx and r are every step's (space says why they stay apart), x and act the row's. v and a,
 // one term, are read out of two slices and go into both halves.
 fn implied_term(
     lists: Lists,
-    w: &mut [f64],
-    m: &mut [usize],
-    s: Shape,
+    floats: &mut [f64],
+    numbers: &mut [usize],
+    cx: Context,
     r: usize,
     x: Limits,
     act: Activity,
     v: usize,
     a: f64,
 ) -> Result<(), Infeasible>
-    requires v_lt_vars { (v < s.vars) × HoldsF s w.old × HoldsN s m.old }
-    requires ready { Ready (Moves lists) s (floats_of s w.old) (numbers_of s m.old) }
-    requires limits { (x.feas ≡ s.feas) × (x.terms ≡ get_or lists.rows.starts.now (r + 1) 0 - get_or lists.rows.starts.now r 0) }
-    ensures { Tries (Moves lists.entry) s (floats_of s w.old) (numbers_of s m.old)
-        (floats_of s w.new) (numbers_of s m.new) result (λ M. definition.implied_term M r (bare x) act (term v a)) }
+    requires v_lt_vars { (v < cx.vars) × HoldsF cx floats.old × HoldsN cx numbers.old }
+    requires ready { Ready (Moves lists) cx (floats_of cx floats.old) (numbers_of cx numbers.old) }
+    requires limits { (x.feas ≡ cx.feas) × (x.terms ≡ get_or lists.rows.starts.now (r + 1) 0 - get_or lists.rows.starts.now r 0) }
+    ensures { Tries (Moves lists.entry) cx (floats_of cx floats.old) (numbers_of cx numbers.old)
+        (floats_of cx floats.new) (numbers_of cx numbers.new) result (λ M. definition.implied_term M r (bare x) act (term v a)) }
 {
-    let lo = get::<Wlo>(w, s, v);
-    let hi = get::<Whi>(w, s, v);
+    let lo = get::<Wlo>(floats, cx, v);
+    let hi = get::<Whi>(floats, cx, v);
     let high = Half {
         upper: true,
         side: x.hi_of(act),
@@ -128,33 +128,33 @@ fn implied_term(
         v,
         a,
     };
-    if high.quiet(lists.domain, w, s) && low.quiet(lists.domain, w, s) {
+    if high.quiet(lists.domain, floats, cx) && low.quiet(lists.domain, floats, cx) {
         return Ok(());
     }
-    high.tighten(lists, w, m, s, r, x)?;
-    low.tighten(lists, w, m, s, r, x)
+    high.tighten(lists, floats, numbers, cx, r, x)?;
+    low.tighten(lists, floats, numbers, cx, r, x)
 }
 
 // = implied_bounds, of the row that stands in the state
 pub fn implied_bounds(
     lists: Lists,
-    w: &mut [f64],
-    m: &mut [usize],
-    s: Shape,
+    floats: &mut [f64],
+    numbers: &mut [usize],
+    cx: Context,
     r: usize,
     act: Activity,
 ) -> Result<(), Infeasible>
-    requires r_lt_rows { (r < s.rows) × HoldsF s w.old × HoldsN s m.old × Alive (numbers_of s m.old) r }
-    requires ready { Ready (Moves lists) s (floats_of s w.old) (numbers_of s m.old) }
-    ensures { Tries (Moves lists.entry) s (floats_of s w.entry.now) (numbers_of s m.old)
-        (floats_of s w.exit.now) (numbers_of s m.new) result (λ M w. definition.implied_bounds M r (row_of w r) act (row_of w r).terms w) }
+    requires r_lt_rows { (r < cx.rows) × HoldsF cx floats.old × HoldsN cx numbers.old × Alive (numbers_of cx numbers.old) r }
+    requires ready { Ready (Moves lists) cx (floats_of cx floats.old) (numbers_of cx numbers.old) }
+    ensures { Tries (Moves lists.entry) cx (floats_of cx floats.entry.now) (numbers_of cx numbers.old)
+        (floats_of cx floats.exit.now) (numbers_of cx numbers.new) result (λ M w. definition.implied_bounds M r (row_of w r) act (row_of w r).terms w) }
 {
-    let x = rows::limits(lists.rows.starts, w, s, r);
+    let x = rows::limits(lists.rows.starts, floats, cx, r);
     let a = lists.rows.starts[r];
-    for i in 0..get::<Len>(m, s, r) {
-        let v = get::<Vars>(m, s, a + i);
-        let c = get::<Coeffs>(w, s, a + i);
-        implied_term(lists, w, m, s, r, x, act, v, c)?;
+    for i in 0..get::<Len>(numbers, cx, r) {
+        let v = get::<Vars>(numbers, cx, a + i);
+        let c = get::<Coeffs>(floats, cx, a + i);
+        implied_term(lists, floats, numbers, cx, r, x, act, v, c)?;
     }
     Ok(())
 }

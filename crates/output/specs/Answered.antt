@@ -7,7 +7,7 @@ use Rattle.definition.specs.Model.{Model, Emit, Reduced, Answer, infeasible, don
 use Rattle.definition.specs.Work.{Work}
 use Rattle.definition.specs.Emit.{Out, final, differs, answer_of}
 use Rattle.definition.specs.declared.Input.{Input}
-use Rattle.space.specs.declared.Shape.{Shape}
+use Rattle.space.specs.declared.Context.{Context}
 use Rattle.space.specs.Store.{Floats, Numbers}
 use Rattle.view.specs.Call.{Call}
 use Rattle.view.specs.Shows.{Shows}
@@ -44,7 +44,7 @@ pub record Answered (a : Reduced) (z : code.Reduced) (b b' : Results) : Type 0 w
   pub flag : z.flag ≡ a.flag
 
 -- whatever settled state the working slices show, it is that state's answer
-pub record WritesOut (P : Model → Type 0) (s : Shape) (f : Floats) (n : Numbers) (z : code.Reduced) (b b' : Results) : Type 0 where
+pub record WritesOut (P : Model → Type 0) (s : Context) (f : Floats) (n : Numbers) (z : code.Reduced) (b b' : Results) : Type 0 where
   pub writes : (M : Model) (o : List ℕ) (k : ℕ) (u : Work) → P M → Call M s → Shows M f n o u → Inv M k u → (a : Reduced)
       → answer_of M (final u (out_of M u.rows (length M.rhs))) ≡ done a → Answered a z b b'
 
@@ -61,7 +61,7 @@ answer-is : (M : Model) (u : Work) (x : Out) (a : Reduced) → answer_of M (fina
 unfolding answer_of reduced_in
 answer-is M u x a e = ap (reduced_in a) e
 
-module _ {M : Model} {s : Shape} {f : Floats} {n : Numbers} {o : List ℕ} {k : ℕ} {u : Work} {x : Input}
+module _ {M : Model} {s : Context} {f : Floats} {n : Numbers} {o : List ℕ} {k : ℕ} {u : Work} {x : Input}
     (c : Call M s) (g : Given x M) (h : Shows M f n o u) (i : Inv M k u) (F : Fates M n.fate f.bound u.rows s.rows) where
   abbrev x₀ : Out
   x₀ = out_of M u.rows (length M.rhs)
@@ -100,7 +100,7 @@ module _ {M : Model} {s : Shape} {f : Floats} {n : Numbers} {o : List ℕ} {k : 
       }
 
 -- ---- write_results
-module _ {x : Input} {s : Shape} {f : Floats} {n : Numbers} where
+module _ {x : Input} {s : Context} {f : Floats} {n : Numbers} where
   module _ (R : Ready (Given x) s f n) where
     pub ready_rows : Ready (Written x.rows) s f n
     ready_rows = ready_under (λ M g. g.rows) R

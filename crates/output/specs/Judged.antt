@@ -2,12 +2,12 @@
 use Rattle.std.specs.Prelude.{ℕ, ◌≤◌, ◌≡◌, Bool, List, Float}
 use Rattle.std.proofs.Common.{arith, subst}
 use Rattle.definition.specs.Model.{Model}
-use Rattle.space.specs.declared.Shape.{Shape}
+use Rattle.space.specs.declared.Context.{Context}
 use Rattle.space.specs.Store.{Floats, Numbers}
 use Rattle.emit.specs.Judging.{TellsTrivial, Judged}
 
-pub told-as : {s : Shape} {ss os : List ℕ} {bs : List Float} {r : ℕ} {z b : Bool} → TellsTrivial s ss os bs r z → z ≡ b → TellsTrivial s ss os bs r b
+pub told-as : {s : Context} {ss os : List ℕ} {bs : List Float} {r : ℕ} {z b : Bool} → TellsTrivial s ss os bs r z → z ≡ b → TellsTrivial s ss os bs r b
 told-as {s} {ss} {os} {bs} {r} T e = subst (TellsTrivial s ss os bs r) e T
 
-pub judged-end : {P : Model → Type 0} {s : Shape} {f f' : Floats} {n n' : Numbers} {r k : ℕ} → Judged P s f n f' n' r → r ≤ k → k ≤ r → Judged P s f n f' n' k
+pub judged-end : {P : Model → Type 0} {s : Context} {f f' : Floats} {n n' : Numbers} {r k : ℕ} → Judged P s f n f' n' r → r ≤ k → k ≤ r → Judged P s f n f' n' k
 judged-end {P} {s} {f} {f'} {n} {n'} {r} {k} J a b = let z : r ≡ k = omega (arith, a, b) in subst (λ (j : ℕ). Judged P s f n f' n' j) z J

@@ -1,7 +1,7 @@
 -- The caller's ten result slices, and what an answer of the definition is in them.
 use Rattle.std.specs.Prelude.{ℕ, ◌≡◌, ◌≤◌, List, map, length, Float}
 use Rattle.definition.specs.Model.{Emit, Reduced}
-use Rattle.space.specs.declared.Shape.{Shape}
+use Rattle.space.specs.declared.Context.{Context}
 use Rattle.row_terms.specs.RowMark.{mark}
 use Rattle.emit.specs.Filling.{over}
 use Rattle.emit.specs.Terms.{vars_of, coeffs_of}
@@ -41,7 +41,7 @@ pub record SameSlices (r r' : code.Results) : Type 0 where
   pub term_coeff : r'.term_coeff.ghost_name ≡ r.term_coeff.ghost_name
 
 -- each has as many entries as there are variables, rows or terms
-pub record Room (s : Shape) (b : Results) : Type 0 where
+pub record Room (s : Context) (b : Results) : Type 0 where
   pub lower : s.vars ≤ length b.lower
   pub upper : s.vars ≤ length b.upper
   pub emit_row : s.rows ≤ length b.emit_row

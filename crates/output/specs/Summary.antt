@@ -5,7 +5,7 @@ use borrow.Author.Tests.{eq-eqb, ne_eqb}
 use Rattle.definition.specs.declared.Counts.{Counts}
 use Rattle.definition.specs.Model.{counts}
 use Rattle.definition.specs.Emit.{same_bounds}
-use Rattle.space.specs.declared.Shape.{Shape}
+use Rattle.space.specs.declared.Context.{Context}
 use Rattle.space.specs.Store.{Floats, Numbers}
 use Rattle.view.specs.Shows.{tally_of, Counted}
 use Rattle.output.specs.declared.Reduced.{Reduced}
@@ -55,10 +55,10 @@ counts_are z k c p =
     five-counts a b d e c.passes
 
 -- ---- differs, of the emitted bounds and the numbers of emitted and kept rows
-unfoldable pub differsBy : Shape → List Float → List Float → Floats → ℕ → ℕ → Bool
+unfoldable pub differsBy : Context → List Float → List Float → Floats → ℕ → ℕ → Bool
 differsBy s ls us f e k = not (same_bounds f.elo ls) || not (same_bounds f.ehi us) || not (eqb k 0) || not (eqb e s.rows)
 
-module _ (s : Shape) (ls us : List Float) (f : Floats) (e k : ℕ) {z : Bool} (c : z ≡ (not (same_bounds f.elo ls) || not (same_bounds f.ehi us))) where
+module _ (s : Context) (ls us : List Float) (f : Floats) (e k : ℕ) {z : Bool} (c : z ≡ (not (same_bounds f.elo ls) || not (same_bounds f.ehi us))) where
   or_true : (a : Bool) → (a || true) ≡ true
   or_true true = refl
   or_true false = refl
@@ -76,7 +76,7 @@ module _ (s : Shape) (ls us : List Float) (f : Floats) (e k : ℕ) {z : Bool} (c
   differs-emitted t q = rw (← c, t, eq-eqb k 0 q)
 
 -- ---- what comes back where e rows are emitted, t terms written and k rows kept
-abbrev pub reducedOf : Shape → List Float → List Float → Floats → Numbers → ℕ → ℕ → ℕ → Reduced
+abbrev pub reducedOf : Context → List Float → List Float → Floats → Numbers → ℕ → ℕ → ℕ → Reduced
 reducedOf s ls us f n e t k = record { counts = counts_of n; emitted = e; terms = t; kept = k; flag = differsBy s ls us f e k }
 
 pub result-is : {k k' : Counts} {b b' : Bool} {e t j : ℕ} → k ≡ k' → b ≡ b'

@@ -2,7 +2,7 @@
 use Rattle.std.specs.Prelude.{ℕ, ◌≡◌, List, length, Float}
 use Rattle.definition.specs.declared.Rows.{Rows}
 use Rattle.definition.specs.declared.Input.{Input}
-use Rattle.space.specs.declared.Shape.{Shape}
+use Rattle.space.specs.declared.Context.{Context}
 use Rattle.space.specs.Store.{Floats, Numbers}
 use Rattle.emit.specs.Fates.{collect, kept_at, out_at, mark_at, self, side_at}
 use Rattle.emit.specs.Filling.{over}
@@ -13,14 +13,14 @@ use Rattle.output.specs.Results.{Results, results}
 use Rattle.output.specs.Summary.{reducedOf}
 
 -- ---- how many rows are emitted, and kept for validation
-abbrev pub outs : Shape → Numbers → ℕ
+abbrev pub outs : Context → Numbers → ℕ
 outs s n = length (collect (out_at n.fate) self s.rows)
 
-abbrev pub keeps : Shape → Numbers → ℕ
+abbrev pub keeps : Context → Numbers → ℕ
 keeps s n = length (collect (kept_at n.fate) self s.rows)
 
 -- ---- write_lists: all ten
-abbrev pub outputs : Shape → Rows → Floats → Numbers → Results → Results
+abbrev pub outputs : Context → Rows → Floats → Numbers → Results → Results
 outputs s x f n b =
     record {
       lower = over f.elo b.lower;
@@ -35,7 +35,7 @@ outputs s x f n b =
       term_coeff = over (coeffs_of (terms_in x.starts.now x.index.now f n s.rows)) b.term_coeff;
     }
 
-pub record ListsOut (s : Shape) (x : Input) (f : Floats) (n : Numbers) (z : Reduced) (b b' : Results) : Type 0 where
+pub record ListsOut (s : Context) (x : Input) (f : Floats) (n : Numbers) (z : Reduced) (b b' : Results) : Type 0 where
   pub lists : b' ≡ outputs s x.rows f n b
   pub result : z ≡ reducedOf s x.lower.now x.upper.now f n (outs s n) (length (terms_in x.rows.starts.now x.rows.index.now f n s.rows)) (keeps s n)
 

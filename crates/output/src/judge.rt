@@ -11,62 +11,62 @@ ghost use Rattle.emit.specs.Judging.{TellsTrivial, Judged, JudgedRow};
 
 use definition::Rows;
 use emit::Fate;
-use space::Shape;
+use space::Context;
 
-fn put_fate(m: &mut [usize], s: Shape, r: usize, fate: Fate)
-    requires { (r < s.rows) × HoldsN s m.old }
-    ensures { numbers_of s m.new ≡ store.put_fate r (number_of fate) (numbers_of s m.old) }
+fn put_fate(numbers: &mut [usize], cx: Context, r: usize, fate: Fate)
+    requires { (r < cx.rows) × HoldsN cx numbers.old }
+    ensures { numbers_of cx numbers.new ≡ store.put_fate r (number_of fate) (numbers_of cx numbers.old) }
 {
-    space::put::<space::Fate>(m, s, r, usize::from(fate));
+    space::put::<space::Fate>(numbers, cx, r, usize::from(fate));
 }
 
 // Row r is at work and has a rewritten coefficient: it goes out rewritten where its bound is finite,
 // and as written where not.
-fn judge_touched(rows: Rows, w: &mut [f64], m: &mut [usize], s: Shape, r: usize)
-    requires r_lt_rows { (r < s.rows) × HoldsF s w.old × HoldsN s m.old × Alive (numbers_of s m.old) r × (get_or (numbers_of s m.old).touched r 0 ≡ 1) }
-    requires tells_trivial { TellsTrivial s rows.starts.now rows.cmp.now rows.rhs.now r false }
-    requires ready { Ready (Written rows) s (floats_of s w.old) (numbers_of s m.old) }
-    ensures { JudgedRow (Written rows.entry) s (floats_of s w.old) (numbers_of s m.old) (floats_of s w.new) (numbers_of s m.new) r }
+fn judge_touched(rows: Rows, floats: &mut [f64], numbers: &mut [usize], cx: Context, r: usize)
+    requires r_lt_rows { (r < cx.rows) × HoldsF cx floats.old × HoldsN cx numbers.old × Alive (numbers_of cx numbers.old) r × (get_or (numbers_of cx numbers.old).touched r 0 ≡ 1) }
+    requires tells_trivial { TellsTrivial cx rows.starts.now rows.cmp.now rows.rhs.now r false }
+    requires ready { Ready (Written rows) cx (floats_of cx floats.old) (numbers_of cx numbers.old) }
+    ensures { JudgedRow (Written rows.entry) cx (floats_of cx floats.old) (numbers_of cx numbers.old) (floats_of cx floats.new) (numbers_of cx numbers.new) r }
 {
-    let b = coeffs::rewritten_bound(rows, w, m, s, r);
+    let b = coeffs::rewritten_bound(rows, floats, numbers, cx, r);
     if floats::is_finite(b) {
-        space::put::<space::Bound>(w, s, r, b);
-        put_fate(m, s, r, Fate::Rewritten);
+        space::put::<space::Bound>(floats, cx, r, b);
+        put_fate(numbers, cx, r, Fate::Rewritten);
         return;
     }
-    put_fate(m, s, r, Fate::Written);
+    put_fate(numbers, cx, r, Fate::Written);
 }
 
 // = fate_of, and the bound of a rewritten row
-fn judge_row(rows: Rows, w: &mut [f64], m: &mut [usize], s: Shape, r: usize)
-    requires r_lt_rows { (r < s.rows) × HoldsF s w.old × HoldsN s m.old }
-    requires ready { Ready (Written rows) s (floats_of s w.old) (numbers_of s m.old) }
-    ensures { JudgedRow (Written rows.entry) s (floats_of s w.old) (numbers_of s m.old) (floats_of s w.new) (numbers_of s m.new) r }
+fn judge_row(rows: Rows, floats: &mut [f64], numbers: &mut [usize], cx: Context, r: usize)
+    requires r_lt_rows { (r < cx.rows) × HoldsF cx floats.old × HoldsN cx numbers.old }
+    requires ready { Ready (Written rows) cx (floats_of cx floats.old) (numbers_of cx numbers.old) }
+    ensures { JudgedRow (Written rows.entry) cx (floats_of cx floats.old) (numbers_of cx numbers.old) (floats_of cx floats.new) (numbers_of cx numbers.new) r }
 {
-    if emit::is_trivial(rows, s, r) {
-        put_fate(m, s, r, Fate::Trivial);
+    if emit::is_trivial(rows, cx, r) {
+        put_fate(numbers, cx, r, Fate::Trivial);
         return;
     }
-    let alive = space::get::<space::Alive>(m, s, r);
+    let alive = space::get::<space::Alive>(numbers, cx, r);
     if alive != 1 {
-        put_fate(m, s, r, Fate::Dropped);
+        put_fate(numbers, cx, r, Fate::Dropped);
         return;
     }
-    let touched = space::get::<space::Touched>(m, s, r);
+    let touched = space::get::<space::Touched>(numbers, cx, r);
     if touched != 1 {
-        put_fate(m, s, r, Fate::Written);
+        put_fate(numbers, cx, r, Fate::Written);
         return;
     }
-    judge_touched(rows, w, m, s, r);
+    judge_touched(rows, floats, numbers, cx, r);
 }
 
 // All rows are judged.
-pub(crate) fn judge_rows(rows: Rows, w: &mut [f64], m: &mut [usize], s: Shape)
-    requires holds_f { HoldsF s w.old × HoldsN s m.old }
-    requires ready { Ready (Written rows) s (floats_of s w.old) (numbers_of s m.old) }
-    ensures { Judged (Written rows.entry) s (floats_of s w.old) (numbers_of s m.old) (floats_of s w.new) (numbers_of s m.new) s.rows }
+pub(crate) fn judge_rows(rows: Rows, floats: &mut [f64], numbers: &mut [usize], cx: Context)
+    requires holds_f { HoldsF cx floats.old × HoldsN cx numbers.old }
+    requires ready { Ready (Written rows) cx (floats_of cx floats.old) (numbers_of cx numbers.old) }
+    ensures { Judged (Written rows.entry) cx (floats_of cx floats.old) (numbers_of cx numbers.old) (floats_of cx floats.new) (numbers_of cx numbers.new) cx.rows }
 {
     for r in 0..s.rows {
-        judge_row(rows, w, m, s, r);
+        judge_row(rows, floats, numbers, cx, r);
     }
 }

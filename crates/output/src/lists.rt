@@ -12,41 +12,60 @@ use crate::judge::judge_rows;
 use crate::summary::result;
 use crate::{Reduced, Results};
 use definition::Input;
-use space::Shape;
+use space::Context;
 
-// Every list, by the fates that stand in the working slices. Of m, the slots change.
-fn write_lists(input: Input, w: &[f64], m: &mut [usize], s: Shape, results: &mut Results) -> Reduced
-    requires holds_f { HoldsF s w.now × HoldsN s m.old × (length input.lower.now ≡ s.vars) × (length input.upper.now ≡ s.vars) × (s.rows ≤ length input.rows.rhs.now) }
-    requires room { Room s (held results.old) }
-    requires spanned { Spanned s input.rows.starts.now (numbers_of s m.old) }
-    requires indexed { Indexed s input.rows.starts.now input.rows.index.now (numbers_of s m.old) }
+// Every list, by the fates that stand in the working slices. Of numbers, the slots change.
+fn write_lists(
+    input: Input,
+    floats: &[f64],
+    numbers: &mut [usize],
+    cx: Context,
+    results: &mut Results,
+) -> Reduced
+    requires holds_f { HoldsF cx floats.now × HoldsN cx numbers.old × (length input.lower.now ≡ cx.vars) × (length input.upper.now ≡ cx.vars) × (cx.rows ≤ length input.rows.rhs.now) }
+    requires room { Room cx (held results.old) }
+    requires spanned { Spanned cx input.rows.starts.now (numbers_of cx numbers.old) }
+    requires indexed { Indexed cx input.rows.starts.now input.rows.index.now (numbers_of cx numbers.old) }
     ensures same { SameSlices results.old results.new }
-    ensures lists { ListsOut s input.entry (floats_of s w.now) (numbers_of s m.old) result (held results.old) (held results.new) }
+    ensures lists { ListsOut cx input.entry (floats_of cx floats.now) (numbers_of cx numbers.old) result (held results.old) (held results.new) }
 {
     let rows = input.rows;
-    emit::write_bounds(w, s, results.lower, results.upper);
-    let emitted = emit::write_emitted(m, s, results.emit_row, results.emit_rewritten);
-    emit::write_rhs(rows.rhs, w, m, s, results.emit_rhs);
-    emit::write_spans(rows.starts, m, s, results.emit_from, results.emit_upto);
-    let kept = emit::write_kept(m, s, results.kept);
-    let terms = emit::write_terms(rows, w, m, s, results.term_index, results.term_coeff);
-    result(input, w, m, s, emitted, terms, kept)
+    emit::write_bounds(floats, cx, results.lower, results.upper);
+    let emitted = emit::write_emitted(numbers, cx, results.emit_row, results.emit_rewritten);
+    emit::write_rhs(rows.rhs, floats, numbers, cx, results.emit_rhs);
+    emit::write_spans(
+        rows.starts,
+        numbers,
+        cx,
+        results.emit_from,
+        results.emit_upto,
+    );
+    let kept = emit::write_kept(numbers, cx, results.kept);
+    let terms = emit::write_terms(
+        rows,
+        floats,
+        numbers,
+        cx,
+        results.term_index,
+        results.term_coeff,
+    );
+    result(input, floats, numbers, cx, emitted, terms, kept)
 }
 
 // = answerOf, of the settled state. Of the working slices, fates, bounds and slots change.
 pub fn write_results(
     input: Input,
-    w: &mut [f64],
-    m: &mut [usize],
-    s: Shape,
+    floats: &mut [f64],
+    numbers: &mut [usize],
+    cx: Context,
     results: &mut Results,
 ) -> Reduced
-    requires holds_f { HoldsF s w.old × HoldsN s m.old }
-    requires room { Room s (held results.old) }
-    requires ready { Ready (Given input) s (floats_of s w.old) (numbers_of s m.old) }
+    requires holds_f { HoldsF cx floats.old × HoldsN cx numbers.old }
+    requires room { Room cx (held results.old) }
+    requires ready { Ready (Given input) cx (floats_of cx floats.old) (numbers_of cx numbers.old) }
     ensures same { SameSlices results.old results.new }
-    ensures writes { WritesOut (Given input.entry) s (floats_of s w.old) (numbers_of s m.old) result (held results.old) (held results.new) }
+    ensures writes { WritesOut (Given input.entry) cx (floats_of cx floats.old) (numbers_of cx numbers.old) result (held results.old) (held results.new) }
 {
-    judge_rows(input.rows, w, m, s);
-    write_lists(input, w, m, s, results)
+    judge_rows(input.rows, floats, numbers, cx);
+    write_lists(input, floats, numbers, cx, results)
 }

@@ -6,48 +6,48 @@ ghost use Rattle.output.specs.Summary.{counts_of, differsBy, reducedOf};
 
 use crate::Reduced;
 use definition::{Counts, Input};
-use space::{Dropped, Fixed, Passes, Rewrote, Shape, Tightened};
+use space::{Context, Dropped, Fixed, Passes, Rewrote, Tightened};
 
 // The five counts, of which four are kept modulo 2^64, which they never reach.
-pub fn read_counts(m: &[usize], s: Shape) -> Counts
-    requires { HoldsN s m.now }
-    ensures { result ≡ counts_of (numbers_of s m.now) }
+pub fn read_counts(numbers: &[usize], cx: Context) -> Counts
+    requires { HoldsN cx numbers.now }
+    ensures { result ≡ counts_of (numbers_of cx numbers.now) }
 {
     Counts {
-        rowsDropped: space::get::<Dropped>(m, s, 0),
-        boundsTightened: space::get::<Tightened>(m, s, 0),
-        varsFixed: space::get::<Fixed>(m, s, 0),
-        coeffsTightened: space::get::<Rewrote>(m, s, 0),
-        passes: space::get::<Passes>(m, s, 0),
+        rowsDropped: space::get::<Dropped>(numbers, cx, 0),
+        boundsTightened: space::get::<Tightened>(numbers, cx, 0),
+        varsFixed: space::get::<Fixed>(numbers, cx, 0),
+        coeffsTightened: space::get::<Rewrote>(numbers, cx, 0),
+        passes: space::get::<Passes>(numbers, cx, 0),
     }
 }
 
 // = differs. No side can fail, so `|` joins them, and it is its definition by computing.
-fn differs(input: Input, w: &[f64], s: Shape, emitted: usize, kept: usize) -> bool
-    requires { HoldsF s w.now × (length input.lower.now ≡ s.vars) × (length input.upper.now ≡ s.vars) }
-    ensures { result ≡ differsBy s input.entry.lower.now input.entry.upper.now (floats_of s w.now) emitted kept }
+fn differs(input: Input, floats: &[f64], cx: Context, emitted: usize, kept: usize) -> bool
+    requires { HoldsF cx floats.now × (length input.lower.now ≡ cx.vars) × (length input.upper.now ≡ cx.vars) }
+    ensures { result ≡ differsBy cx input.entry.lower.now input.entry.upper.now (floats_of cx floats.now) emitted kept }
 {
-    emit::bounds_changed(input.lower, input.upper, w, s) | (kept != 0) | (emitted != s.rows)
+    emit::bounds_changed(input.lower, input.upper, floats, cx) | (kept != 0) | (emitted != cx.rows)
 }
 
 // What comes back where so many rows are emitted, terms written and rows kept.
 pub(crate) fn result(
     input: Input,
-    w: &[f64],
-    m: &[usize],
-    s: Shape,
+    floats: &[f64],
+    numbers: &[usize],
+    cx: Context,
     emitted: usize,
     terms: usize,
     kept: usize,
 ) -> Reduced
-    requires { HoldsF s w.now × HoldsN s m.now × (length input.lower.now ≡ s.vars) × (length input.upper.now ≡ s.vars) }
-    ensures { result ≡ reducedOf s input.entry.lower.now input.entry.upper.now (floats_of s w.now) (numbers_of s m.now) emitted terms kept }
+    requires { HoldsF cx floats.now × HoldsN cx numbers.now × (length input.lower.now ≡ cx.vars) × (length input.upper.now ≡ cx.vars) }
+    ensures { result ≡ reducedOf cx input.entry.lower.now input.entry.upper.now (floats_of cx floats.now) (numbers_of cx numbers.now) emitted terms kept }
 {
     Reduced {
-        counts: read_counts(m, s),
+        counts: read_counts(numbers, cx),
         emitted,
         terms,
         kept,
-        flag: differs(input, w, s, emitted, kept),
+        flag: differs(input, floats, cx, emitted, kept),
     }
 }

@@ -15,7 +15,7 @@ use Rattle.definition.specs.Emit.{Out, answer_of, final, differs}
 use Rattle.definition.specs.Presolve.{presolve}
 use Rattle.definition.specs.Refusal.{refusal}
 use Rattle.formulas.specs.Fixing.{mip}
-use Rattle.space.specs.declared.Shape.{Shape}
+use Rattle.space.specs.declared.Context.{Context}
 use Rattle.space.specs.Store.{Floats, Numbers, HoldsF, HoldsN}
 use Rattle.view.specs.Call.{Call}
 use Rattle.view.specs.Acts.{Ready}
@@ -77,7 +77,7 @@ same_values : {k k' : Counts} {n n' t t' q q' : ℕ} {g g' : Bool} → k ≡ k' 
 same_values a b c d e = rw (a, b, c, d, e) refl
 
 -- ---- finished: z has the answer that is in the result slices
-pub record Finished (P : Model → Type 0) (s : Shape) (f : Floats) (n : Numbers) (z : Presolved) (b b' : Results) : Type 0 where
+pub record Finished (P : Model → Type 0) (s : Context) (f : Floats) (n : Numbers) (z : Presolved) (b b' : Results) : Type 0 where
   pub reduced : code.Reduced
   pub is : presolved_is z ≡ presolved reduced.counts reduced.emitted reduced.terms reduced.kept reduced.flag
   pub writes : WritesOut P s f n reduced b b'
@@ -89,12 +89,12 @@ pub record Passes (M : Model) (b : Results) (x : Working) : Type 0 where
 pub passes : {M : Model} {b : Results} {x : Working} {y : Result ⊤ Refusal} {u : ⊤} → refused_is y ≡ refusal M (lengths b x) → y ≡ Ok u → Passes M b x
 passes t g = record { table = sym t ∙ ap refused_is g }
 
-pub record Accepted (M : Model) (b : Results) (x : Working) (s : Shape) : Type 0 where
+pub record Accepted (M : Model) (b : Results) (x : Working) (s : Context) : Type 0 where
   pub params : M.params ≡ params
   pub table : refusal M (lengths b x) ≡ none
   pub scalars : Scalars M s
 
-pub accept : {M : Model} {b : Results} {x : Working} {s : Shape} → Passes M b x → M.params ≡ params → s.vars ≡ length M.obj → s.rows ≡ length M.rhs → s.terms ≡ length M.index
+pub accept : {M : Model} {b : Results} {x : Working} {s : Context} → Passes M b x → M.params ≡ params → s.vars ≡ length M.obj → s.rows ≡ length M.rhs → s.terms ≡ length M.index
     → s.mip ≡ mip M.mode → s.feas ≡ M.feas → Accepted M b x s
 unfolding is_mip mip
 accept {M} {b} {x} e p v r t i f =
@@ -121,11 +121,11 @@ input_of M =
       int_tol = M.int_tol;
     }
 
-pub accepted_input : {M : Model} {b : Results} {x : Working} {s : Shape} → Accepted M b x s → (i : Input) × (input_model i ≡ M)
+pub accepted_input : {M : Model} {b : Results} {x : Working} {s : Context} → Accepted M b x s → (i : Input) × (input_model i ≡ M)
 unfolding input_of lent
 accepted_input {M} a = (input_of M, ap (λ (p : Params). record M { params = p }) (sym a.params))
 
-module _ (i : Input) {b : Results} {x : Working} {s : Shape} (a : Accepted (input_model i) b x s) where
+module _ (i : Input) {b : Results} {x : Working} {s : Context} (a : Accepted (input_model i) b x s) where
   abbrev M : Model
   M = input_model i
 

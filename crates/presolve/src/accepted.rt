@@ -9,7 +9,7 @@ use crate::ending::{finished, stopped};
 use crate::{Presolved, Space};
 use definition::{Infeasible, Input};
 use output::Results;
-use space::Shape;
+use space::Context;
 
 pub(crate) fn accepted(input: Input, results: &mut Results, space: &mut Space) -> Presolved
     requires { Passes (input_model input) (held results.old) (working_of space.old) }
@@ -17,7 +17,7 @@ pub(crate) fn accepted(input: Input, results: &mut Results, space: &mut Space) -
     ensures same_space { SameSpace space.old space.new }
     ensures promise { Promise (input_model input.entry) (held results.old) (working_of space.old) (Ok result) (held results.new) (working_of space.new) }
 {
-    let s = Shape {
+    let s = Context {
         vars: input.obj.len(),
         rows: input.rows.rhs.len(),
         terms: input.rows.index.len(),

@@ -12,7 +12,7 @@ ghost use Rattle.presolve.specs.Steps.{Finished};
 use crate::{Presolved, Space};
 use definition::Input;
 use output::Results;
-use space::Shape;
+use space::Context;
 
 // Zeros over the whole lent lengths.
 fn clear(space: &mut Space)
@@ -23,13 +23,13 @@ fn clear(space: &mut Space)
 }
 
 // Infeasible, with the counts reached.
-pub(crate) fn stopped(space: &mut Space, s: Shape) -> Presolved
-    requires { HoldsN s space.old.numbers.now }
-    ensures result_value { presolved_is result ≡ infeasible (counts_of (numbers_of s space.old.numbers.now)) }
+pub(crate) fn stopped(space: &mut Space, cx: Context) -> Presolved
+    requires { HoldsN cx space.old.numbers.now }
+    ensures result_value { presolved_is result ≡ infeasible (counts_of (numbers_of cx space.old.numbers.now)) }
     ensures same { SameSpace space.old space.new }
     ensures zeros { working_of space.new ≡ working_after none (working_of space.old) }
 {
-    let counts = output::read_counts(space.numbers, s);
+    let counts = output::read_counts(space.numbers, cx);
     clear(space);
     Presolved::Infeasible(counts)
 }
@@ -37,20 +37,20 @@ pub(crate) fn stopped(space: &mut Space, s: Shape) -> Presolved
 // A model, which is written to the result slices.
 pub(crate) fn finished(
     input: Input,
-    s: Shape,
+    cx: Context,
     results: &mut Results,
     space: &mut Space,
 ) -> Presolved
-    requires holds_f { HoldsF s space.old.floats.now × HoldsN s space.old.numbers.now }
-    requires room { Room s (held results.old) }
-    requires ready { Ready (Given input) s (floats_of s space.old.floats.now) (numbers_of s space.old.numbers.now) }
+    requires holds_f { HoldsF cx space.old.floats.now × HoldsN cx space.old.numbers.now }
+    requires room { Room cx (held results.old) }
+    requires ready { Ready (Given input) cx (floats_of cx space.old.floats.now) (numbers_of cx space.old.numbers.now) }
     ensures same_results { SameSlices results.old results.new }
     ensures same_space { SameSpace space.old space.new }
-    ensures finished { Finished (Given input.entry) s (floats_of s space.old.floats.now) (numbers_of s space.old.numbers.now)
+    ensures finished { Finished (Given input.entry) cx (floats_of cx space.old.floats.now) (numbers_of cx space.old.numbers.now)
         result (held results.old) (held results.new) }
     ensures zeros { working_of space.new ≡ working_after none (working_of space.old) }
 {
-    let reduced = output::write_results(input, space.floats, space.numbers, s, results);
+    let reduced = output::write_results(input, space.floats, space.numbers, cx, results);
     clear(space);
     Presolved::Model(reduced)
 }

@@ -14,7 +14,7 @@ use Rattle.definition.specs.Presolve.{presolve}
 use Rattle.definition.specs.Refusal as call
 use Rattle.rows_kept.specs.Statements.{All, no_one, each, Rising, ends, rises, rows_of, Consecutive, no_span, skips, spans}
 use Rattle.rows_kept.proofs.Theorems.{waves_bounded, waves_bounded_infeasible, emitted_rising, kept_rising, conserved, bounds_lengths, terms_fit, spans_follow_lem}
-use Rattle.space.specs.declared.Shape.{Shape}
+use Rattle.space.specs.declared.Context.{Context}
 use Rattle.view.specs.Call.{Call}
 use Rattle.refuse.specs.Accepted.{call_of}
 use Rattle.row_terms.specs.RowMark.{mark}
@@ -93,7 +93,7 @@ record Sized (M : Model) : Type 0 where
   pars : M.params ≡ params
 
 module _ (M : Model) (S : Sized M) (e : call.refusal M space ≡ none) where
-  shape : Shape
+  shape : Context
   shape = record { vars = length M.lower; rows = length M.rhs; terms = length M.index; mip = is_mip M; feas = M.feas }
 
   accepted_call : Call M shape

@@ -9,7 +9,7 @@ use Rattle.definition.specs.declared.Activity.{Activity}
 use Rattle.definition.specs.Model.{Model, range_min, range_max}
 use Rattle.definition.specs.Work.{Work, no_term, bound_tol}
 use Rattle.definition.specs.Activities.{no_activity, activity_step, activity_from, activity}
-use Rattle.space.specs.declared.Shape.{Shape}
+use Rattle.space.specs.declared.Context.{Context}
 use Rattle.space.specs.Store.{Floats, Numbers}
 use Rattle.formulas.specs.Terms.{step_of, step_of_lem}
 use Rattle.view.specs.Call.{Call}
@@ -30,7 +30,7 @@ abbrev pub his_of : Bool → Work → List Float
 his_of working w = choose working w.whi w.ehi
 
 -- ---- one term
-module _ {s : Shape} {f : Floats} (v : ℕ) (a lo hi : Float) (act : Activity) {z : Activity} where
+module _ {s : Context} {f : Floats} (v : ℕ) (a lo hi : Float) (act : Activity) {z : Activity} where
   pub within_step : {tolLo tolHi : Float} → act.ninf_l + 1 < 2 ^ 64 → act.ninf_u + 1 < 2 ^ 64 → ReadsF Any s f tolLo (λ M w. bound_tol M w v false) → ReadsF Any s f tolHi (λ M w. bound_tol M w v true)
       → z ≡ step_of a lo hi tolLo tolHi act → ReadsF Any s f z (λ M w. activity_step M w lo hi (term v a) act)
   within_step {tolHi = tolHi} p q tl tu ez =
@@ -47,7 +47,7 @@ module _ {s : Shape} {f : Floats} (v : ℕ) (a lo hi : Float) (act : Activity) {
   in_box working el eh t = record { reads = λ M n o k w x c h i. rw (el.reads M n o k w tt c h i, eh.reads M n o k w tt c h i) (t.reads M n o k w x c h i) }
 
 -- ---- a bound of either box
-module _ {s : Shape} {f : Floats} (v : ℕ) {x : Float} where
+module _ {s : Context} {f : Floats} (v : ℕ) {x : Float} where
   pub working_lo : x ≡ get_or f.wlo v nan → ReadsF Any s f x (λ M w. at (los_of true w) v)
   unfolding choose
   working_lo e = record { reads = λ M n o k w p c h i. sym (wlo_is v h e) }
@@ -88,7 +88,7 @@ unfolding activity
 from_start M w r working = refl
 
 -- ---- the walk: the terms from i on are left
-pub record Walking (ss : List ℕ) (s : Shape) (f : Floats) (n : Numbers) (r : ℕ) (working : Bool) (i : ℕ) (act : Activity) : Type 0 where
+pub record Walking (ss : List ℕ) (s : Context) (f : Floats) (n : Numbers) (r : ℕ) (working : Bool) (i : ℕ) (act : Activity) : Type 0 where
   pub ready : Ready (Spans ss) s f n
   pub upto : i ≤ get_or n.len r 0
   pub inf_l : act.ninf_l ≤ i
@@ -96,7 +96,7 @@ pub record Walking (ss : List ℕ) (s : Shape) (f : Floats) (n : Numbers) (r : �
   pub rest : (M : Model) (o : List ℕ) (k : ℕ) (w : Work) → Spans ss M → Call M s → Shows M f n o w → Inv M k w
       → activity_from M w (los_of working w) (his_of working w) act (drop i (row_of w r).terms) ≡ activity M w (row_of w r) working
 
-module _ {ss : List ℕ} {s : Shape} {f : Floats} {n : Numbers} {r : ℕ} {working : Bool} where
+module _ {ss : List ℕ} {s : Context} {f : Floats} {n : Numbers} {r : ℕ} {working : Bool} where
   pub walk_start : {act : Activity} → Ready (Spans ss) s f n → act ≡ no_activity → Walking ss s f n r working 0 act
   walk_start {act} R e =
       record {

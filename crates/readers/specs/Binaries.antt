@@ -12,7 +12,7 @@ use Rattle.definition.specs.declared.Rows.{Rows}
 use Rattle.definition.specs.Model.{Model, from, nnz, written, Row, Binding}
 use Rattle.definition.specs.Work.{Work, has_term}
 use Rattle.definition.specs.Choices.{and_left}
-use Rattle.space.specs.declared.Shape.{Shape}
+use Rattle.space.specs.declared.Context.{Context}
 use Rattle.space.specs.Store.{Floats, Numbers}
 use Rattle.view.specs.Call.{Call}
 use Rattle.view.specs.Shows.{Shows, Parts, BindingShown, unbound, is_bound}
@@ -54,7 +54,7 @@ bound_binary {row = row} (is_bound {b} s) (some_in i) k l =
     (omega (arith, q, s.fits), subst (λ (v : ℕ). has_term v (row.terms ++ row.folded) ≡ true) (sym (s.binary k q)) (nth_binary i k q))
 
 -- v is the k-th binary of row r, which stands at place i
-module _ {M : Model} {s : Shape} {f : Floats} {n : Numbers} {o : List ℕ} {w : Work} {r j : ℕ} (c : Call M s) (h : Shows M f n o w) (p : r < s.rows)
+module _ {M : Model} {s : Context} {f : Floats} {n : Numbers} {o : List ℕ} {w : Work} {r j : ℕ} (c : Call M s) (h : Shows M f n o w) (p : r < s.rows)
     (a : Alive n r) (u : Inv M j w) (k v : ℕ) (l : k < get_or n.binaries r 0) (e : v ≡ get_or n.binary (from M r + k) 0) where
   both : (k < nnz M r) × (has_term (get_or n.binary (from M r + k) 0) ((row_of w r).terms ++ (row_of w r).folded) ≡ true)
   both = bound_binary (row_shown c h p a).binding (row_inv c h p a u).binaries k l
@@ -69,7 +69,7 @@ module _ {M : Model} {s : Shape} {f : Floats} {n : Numbers} {o : List ℕ} {w : 
   binary_written = has_all v (row_inv c h p a u).all_in binary_has
 
 -- ---- the state that `Ready` has
-module _ {s : Shape} {f : Floats} {n : Numbers} {rows : Rows} {r k : ℕ}
+module _ {s : Context} {f : Floats} {n : Numbers} {rows : Rows} {r k : ℕ}
     (R : Ready (Written rows) s f n) (p : r < s.rows) (a : Alive n r) (l : k < get_or n.binaries r 0) where
   from_is : from R.model r ≡ get_or rows.starts.now r 0
   unfolding from

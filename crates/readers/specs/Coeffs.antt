@@ -9,7 +9,7 @@ use Rattle.floats.specs.Num.{choose, 0f}
 use Rattle.tolerances.specs.Tol.{Term}
 use Rattle.definition.specs.Model.{Model, Row, coeff_in, or_else, coeff_of}
 use Rattle.definition.specs.Work.{Work, no_term, has_term}
-use Rattle.space.specs.declared.Shape.{Shape}
+use Rattle.space.specs.declared.Context.{Context}
 use Rattle.space.specs.Store.{Floats, Numbers}
 use Rattle.view.specs.Call.{Call}
 use Rattle.view.specs.Shows.{Shows}
@@ -85,7 +85,7 @@ unfolding place_of
 place_folded a e {n} {k} h = sym (no _ _ (le-ltb k n h))
 
 -- term k of the live, then the folded ones
-pub row_term_lem : {ss : List ℕ} {s : Shape} {f : Floats} {n : Numbers} {r : ℕ} {row : Row} → RowAt ss s f n r row → (k : ℕ) → k < length (row.terms ++ row.folded)
+pub row_term_lem : {ss : List ℕ} {s : Context} {f : Floats} {n : Numbers} {r : ℕ} {row : Row} → RowAt ss s f n r row → (k : ℕ) → k < length (row.terms ++ row.folded)
     → TermAt s f n (place_of (get_or ss r 0) (get_or ss (r + 1) 0) (get_or n.len r 0) k) (get_or (row.terms ++ row.folded) k no_term)
 row_term_lem {ss} {s} {f} {n} {r} {row} x k l = go (side k (length row.terms))
   where
@@ -107,21 +107,21 @@ row_term_lem {ss} {s} {f} {n} {r} {row} x k l = go (side k (length row.terms))
         (x.folded j (omega (arith, l, q, length-append row.terms row.folded)))
 
 -- ---- row_coeff: the slices show a state whose row r has v
-pub record ReadyTerm (P : Model → Type 0) (s : Shape) (f : Floats) (n : Numbers) (r v : ℕ) : Type 0 where
+pub record ReadyTerm (P : Model → Type 0) (s : Context) (f : Floats) (n : Numbers) (r v : ℕ) : Type 0 where
   pub ready : Ready P s f n
   pub has : has_term v ((row_of ready.work r).terms ++ (row_of ready.work r).folded) ≡ true
 
 -- the terms from k on still have v, and the coefficient is found among them
-pub record Seeking (ss : List ℕ) (s : Shape) (f : Floats) (n : Numbers) (r v k : ℕ) : Type 0 where
+pub record Seeking (ss : List ℕ) (s : Context) (f : Floats) (n : Numbers) (r v k : ℕ) : Type 0 where
   pub ready : Ready (Spans ss) s f n
   pub ahead : has_term v (drop k ((row_of ready.work r).terms ++ (row_of ready.work r).folded)) ≡ true
   pub rest : (M : Model) (o : List ℕ) (j : ℕ) (w : Work) → Spans ss M → Call M s → Shows M f n o w → Inv M j w
       → or_else (coeff_in v (drop k ((row_of w r).terms ++ (row_of w r).folded))) 0f ≡ coeff_of (row_of w r) v
 
-pub term_long : {ss : List ℕ} {s : Shape} {f : Floats} {n : Numbers} {r v : ℕ} → ReadyTerm (Spans ss) s f n r v → r < s.rows → Alive n r → r + 1 < length ss
+pub term_long : {ss : List ℕ} {s : Context} {f : Floats} {n : Numbers} {r v : ℕ} → ReadyTerm (Spans ss) s f n r v → r < s.rows → Alive n r → r + 1 < length ss
 term_long R p a = (row_ready R.ready (λ M q. q) p a).long
 
-module _ {ss : List ℕ} {s : Shape} {f : Floats} {n : Numbers} {r v : ℕ} where
+module _ {ss : List ℕ} {s : Context} {f : Floats} {n : Numbers} {r v : ℕ} where
   pub seek_start : ReadyTerm (Spans ss) s f n r v → Seeking ss s f n r v 0
   seek_start R = record { ready = R.ready; ahead = R.has; rest = λ M o j w p c h i. coeff_of_lem (row_of w r) v }
 

@@ -17,7 +17,7 @@ use Rattle.definition.specs.declared.Rows.{Rows}
 use Rattle.definition.specs.Model.{Model, from, upto, nnz, written, op_of, rhs_of}
 use Rattle.definition.specs.Work.{Work}
 use Rattle.definition.specs.Singles.{fixed_value}
-use Rattle.space.specs.declared.Shape.{Shape}
+use Rattle.space.specs.declared.Context.{Context}
 use Rattle.space.specs.Store.{Floats, Numbers}
 use Rattle.view.specs.Call.{Call}
 use Rattle.view.specs.Shows.{Shows}
@@ -51,13 +51,13 @@ from_end : (x : ℕ → Float) (d : CDouble × Float) → row_from x d [] ≡ d
 unfolding row_from
 from_end x d = refl
 
-pub record Summing (is : List ℕ) (cs : List Float) (s : Shape) (f : Floats) (a e : ℕ) (b : Float) (i : ℕ) (sum : RowSum) : Type 0 where
+pub record Summing (is : List ℕ) (cs : List Float) (s : Context) (f : Floats) (a e : ℕ) (b : Float) (i : ℕ) (sum : RowSum) : Type 0 where
   pub past : a ≤ i
   pub upto : i ≤ e
   pub rest : (M : Model) (n : Numbers) (o : List ℕ) (k : ℕ) (w : Work) → Call M s → Shows M f n o w → Inv M k w
       → row_from (fixed_value w) (sum_of sum) (span_terms is cs i e) ≡ row_from (fixed_value w) (row_start b) (span_terms is cs a e)
 
-module _ {is : List ℕ} {cs : List Float} {s : Shape} {f : Floats} {a e : ℕ} {b : Float} where
+module _ {is : List ℕ} {cs : List Float} {s : Context} {f : Floats} {a e : ℕ} {b : Float} where
   pub sum_start : {sum : RowSum} → a ≤ e → sum_of sum ≡ row_start b → Summing is cs s f a e b a sum
   sum_start l d =
       record {
@@ -98,7 +98,7 @@ when_false b e = rw e
 abbrev pub row_terms : Rows → ℕ → List Term
 row_terms rows r = span_terms rows.index.now rows.coeff.now (get_or rows.starts.now r 0) (get_or rows.starts.now (r + 1) 0)
 
-pub record SpanAt (s : Shape) (rows : Rows) (r : ℕ) : Type 0 where
+pub record SpanAt (s : Context) (rows : Rows) (r : ℕ) : Type 0 where
   pub starts : r + 1 < length rows.starts.now
   pub cmps : r < length rows.cmp.now
   pub rhss : r < length rows.rhs.now
@@ -107,7 +107,7 @@ pub record SpanAt (s : Shape) (rows : Rows) (r : ℕ) : Type 0 where
   pub coeffs : length rows.coeff.now ≡ length rows.index.now
   pub below : Below s.vars rows.index.now
 
-module _ {s : Shape} {rows : Rows} {r : ℕ} where
+module _ {s : Context} {rows : Rows} {r : ℕ} where
   pub span_at : {M : Model} → Written rows M → Call M s → r < s.rows → SpanAt s rows r
   unfolding from upto
   span_at {M} k c p =
@@ -154,7 +154,7 @@ module _ {rows : Rows} (r : ℕ) {M : Model} (k : Written rows M) where
   unfolding op_of
   op_is = ap (λ (l : List ℕ). get_or l r 0) k.cmp
 
-  module _ {s : Shape} (c : Call M s) (p : r < s.rows) where
+  module _ {s : Context} (c : Call M s) (p : r < s.rows) where
     trivial_is : trivial_verdict M.feas (op_of M r) (length (written M r)) (rhs_of M r) ≡ trivial_verdict s.feas (get_or rows.cmp.now r 0) (get_or rows.starts.now (r + 1) 0 - get_or rows.starts.now r 0) (get_or rows.rhs.now r nan)
     trivial_is =
         let l : length (written M r) ≡ get_or rows.starts.now (r + 1) 0 - get_or rows.starts.now r 0 = ap length written_is ∙ span_length (span_at k c p) in
@@ -172,7 +172,7 @@ module _ {rows : Rows} (r : ℕ) {M : Model} (k : Written rows M) where
     sum_is w = ap (row_from (fixed_value w) (row_start (rhs_of M r))) written_is ∙ ap (λ (x : Float). row_from (fixed_value w) (row_start x) (row_terms rows r)) rhs_is
 
 -- ---- empty_row_violated, by whether the row rows.index.now trivially true
-module _ {s : Shape} {f : Floats} {rows : Rows} {r : ℕ} (p : r < s.rows) (t : Option Bool) {y : Bool}
+module _ {s : Context} {f : Floats} {rows : Rows} {r : ℕ} (p : r < s.rows) (t : Option Bool) {y : Bool}
     (et : option_of t ≡ trivial_verdict s.feas (get_or rows.cmp.now r 0) (get_or rows.starts.now (r + 1) 0 - get_or rows.starts.now r 0) (get_or rows.rhs.now r nan)) (ey : y ≡ unwrap_or t false) where
   pub empty_true : y ≡ true → ReadsF (Written rows) s f false (λ M w. violated M.feas (op_of M r) (written M r) (rhs_of M r) (fixed_value w))
   empty_true e =

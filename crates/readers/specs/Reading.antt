@@ -4,7 +4,7 @@ use Rattle.std.proofs.Common.{arith, ap}
 use Rattle.definition.specs.declared.Rows.{Rows}
 use Rattle.definition.specs.Model.{Model, Row}
 use Rattle.definition.specs.Work.{Work, no_row}
-use Rattle.space.specs.declared.Shape.{Shape}
+use Rattle.space.specs.declared.Context.{Context}
 use Rattle.space.specs.Store.{Floats, Numbers}
 use Rattle.view.specs.Call.{Call}
 use Rattle.view.specs.Shows.{Shows}
@@ -19,19 +19,19 @@ abbrev pub Alive : Numbers → ℕ → Type 0
 Alive n r = get_or n.alive r 0 ≡ 1
 
 -- the result is the definition's, whatever the numbers are
-pub record ReadsF {A : Type 0} (P : Model → Type 0) (s : Shape) (f : Floats) (z : A) (F : Model → Work → A) : Type 0 where
+pub record ReadsF {A : Type 0} (P : Model → Type 0) (s : Context) (f : Floats) (z : A) (F : Model → Work → A) : Type 0 where
   pub reads : (M : Model) (n : Numbers) (o : List ℕ) (k : ℕ) (w : Work) → P M → Call M s → Shows M f n o w → Inv M k w → F M w ≡ z
 
 -- the result is the definition's, of a function that the model alone decides
-pub record ReadsM {A : Type 0} (P : Model → Type 0) (s : Shape) (z : A) (F : Model → A) : Type 0 where
+pub record ReadsM {A : Type 0} (P : Model → Type 0) (s : Context) (z : A) (F : Model → A) : Type 0 where
   pub reads : (M : Model) → P M → Call M s → F M ≡ z
 
 -- what such a function asks: the floats show some state with some numbers
-pub record ReadyF (P : Model → Type 0) (s : Shape) (f : Floats) : Type 0 where
+pub record ReadyF (P : Model → Type 0) (s : Context) (f : Floats) : Type 0 where
   pub numbers : Numbers
   pub ready : Ready P s f numbers
 
-pub ready_floats : {P : Model → Type 0} {s : Shape} {f : Floats} {n : Numbers} → Ready P s f n → ReadyF P s f
+pub ready_floats : {P : Model → Type 0} {s : Context} {f : Floats} {n : Numbers} → Ready P s f n → ReadyF P s f
 ready_floats {n = n} R = record { numbers = n; ready = R }
 
 -- the result is the definition's, of a function that the model alone decides and that has no call to look at
@@ -47,5 +47,5 @@ pub record Domains (ds : List ℕ) (M : Model) : Type 0 where
   pub domain : M.domain ≡ ds
 
 -- a variable has its domain
-pub domain_in : {P : Model → Type 0} {s : Shape} {f : Floats} {n : Numbers} {ds : List ℕ} {v : ℕ} → Ready P s f n → ((M : Model) → P M → Domains ds M) → v < s.vars → v < length ds
+pub domain_in : {P : Model → Type 0} {s : Context} {f : Floats} {n : Numbers} {ds : List ℕ} {v : ℕ} → Ready P s f n → ((M : Model) → P M → Domains ds M) → v < s.vars → v < length ds
 domain_in R q p = omega (arith, p, R.call.vars, R.call.domains, ap length (q R.model R.known).domain)

@@ -10,7 +10,7 @@ use Rattle.std.proofs.Math.Seq.{get_or-take, get_or-drop}
 use Rattle.tolerances.specs.Tol.{Term, at, zip_terms}
 use Rattle.definition.specs.Model.{Model, from, upto, nnz, written, Row}
 use Rattle.definition.specs.Work.{Work, no_term, has_term}
-use Rattle.space.specs.declared.Shape.{Shape}
+use Rattle.space.specs.declared.Context.{Context}
 use Rattle.space.specs.Store.{Floats, Numbers}
 use Rattle.view.specs.Call.{Call}
 use Rattle.view.specs.Shows.{is_one, Shows, RowShown, parts_of}
@@ -21,14 +21,14 @@ use Rattle.view.specs.Known.{Spans}
 use Rattle.readers.specs.Reading.{row_of, Alive}
 
 -- place i has the term t, whose variable is one of the model's
-pub record TermAt (s : Shape) (f : Floats) (n : Numbers) (i : ℕ) (t : Term) : Type 0 where
+pub record TermAt (s : Context) (f : Floats) (n : Numbers) (i : ℕ) (t : Term) : Type 0 where
   pub var : get_or n.vars i 0 ≡ t.var
   pub coeff : at f.coeffs i ≡ t.coeff
   pub below : t.var < s.vars
   pub place : i < s.terms
 
 -- row r, whose span is where the list ss of all spans' starts says
-pub record RowAt (ss : List ℕ) (s : Shape) (f : Floats) (n : Numbers) (r : ℕ) (row : Row) : Type 0 where
+pub record RowAt (ss : List ℕ) (s : Context) (f : Floats) (n : Numbers) (r : ℕ) (row : Row) : Type 0 where
   pub long : r + 1 < length ss
   pub len : get_or n.len r 0 ≡ length row.terms
   pub folds : get_or n.folded r 0 ≡ length row.folded
@@ -56,7 +56,7 @@ all_in_lem all_in[] k p = absurd (omega arith)
 all_in_lem (all_in∷ e a) zero p = e
 all_in_lem (all_in∷ e a) (suc k) p = all_in_lem a k (omega arith)
 
-module _ {M : Model} {s : Shape} (c : Call M s) {r : ℕ} (p : r < s.rows) where
+module _ {M : Model} {s : Context} (c : Call M s) {r : ℕ} (p : r < s.rows) where
   pub in_rows : r < length M.rhs
   in_rows = omega (arith, p, c.rows)
 
@@ -79,7 +79,7 @@ module _ {M : Model} {s : Shape} (c : Call M s) {r : ℕ} (p : r < s.rows) where
       omega (arith, z, c.vars)
 
 -- ---- whatever state the slices show
-module _ {M : Model} {s : Shape} {f : Floats} {n : Numbers} {o : List ℕ} {w : Work} {r : ℕ} (c : Call M s) (h : Shows M f n o w) (p : r < s.rows) (a : Alive n r) where
+module _ {M : Model} {s : Context} {f : Floats} {n : Numbers} {o : List ℕ} {w : Work} {r : ℕ} (c : Call M s) (h : Shows M f n o w) (p : r < s.rows) (a : Alive n r) where
   pub row_alive : (row_of w r).alive ≡ true
   row_alive = sym (h.alive r (in_rows c p)) ∙ ap is_one a ∙ one_is
 
@@ -137,12 +137,12 @@ module _ {M : Model} {s : Shape} {f : Floats} {n : Numbers} {o : List ℕ} {w : 
         }
 
 -- a row that the state has alive is alive in the slices
-pub alive_of : {M : Model} {s : Shape} {f : Floats} {n : Numbers} {o : List ℕ} {w : Work} {r : ℕ} → Call M s → Shows M f n o w → r < s.rows → (row_of w r).alive ≡ true → Alive n r
+pub alive_of : {M : Model} {s : Context} {f : Floats} {n : Numbers} {o : List ℕ} {w : Work} {r : ℕ} → Call M s → Shows M f n o w → r < s.rows → (row_of w r).alive ≡ true → Alive n r
 unfolding is_one
 alive_of {n = n} {r = r} c h p e = eqb-true (get_or n.alive r 0) 1 (h.alive r (in_rows c p) ∙ e)
 
 -- ---- the state that `Ready` has, of a P that knows where the spans are
-module _ {P : Model → Type 0} {s : Shape} {f : Floats} {n : Numbers} {ss : List ℕ} {r : ℕ} (R : Ready P s f n) (q : (M : Model) → P M → Spans ss M) (p : r < s.rows) (a : Alive n r) where
+module _ {P : Model → Type 0} {s : Context} {f : Floats} {n : Numbers} {ss : List ℕ} {r : ℕ} (R : Ready P s f n) (q : (M : Model) → P M → Spans ss M) (p : r < s.rows) (a : Alive n r) where
   pub row_ready : RowAt ss s f n r (row_of R.work r)
   row_ready = row_at R.call R.shows p a R.inv (q R.model R.known)
 

@@ -10,7 +10,7 @@ use Rattle.definition.specs.Model.{Model, is_int, is_int_domain, is_mip}
 use Rattle.definition.specs.Work.{Work, fixed, bound_tol}
 use Rattle.definition.specs.Singles.{fixed_value}
 use Rattle.definition.specs.Choices.{and_left, and_right}
-use Rattle.space.specs.declared.Shape.{Shape}
+use Rattle.space.specs.declared.Context.{Context}
 use Rattle.space.specs.Store.{Floats, Numbers}
 use Rattle.formulas.specs.declared.Ends.{Ends}
 use Rattle.formulas.specs.Fixing.{int_domain, int_domain_of, fixed_at, fixed_of}
@@ -33,15 +33,15 @@ module _ {ds : List ℕ} (v : ℕ) {z : Bool} where
   pub domain_is : z ≡ int_domain (get_or ds v 0) → Tells (Domains ds) z (λ M. is_int_domain M v)
   domain_is e = record { tells = λ M d. sym (int_domain_of M v) ∙ ap (λ (l : List ℕ). int_domain (get_or l v 0)) d.domain ∙ sym e }
 
-  module _ {s : Shape} where
+  module _ {s : Context} where
     pub int_mip : s.mip ≡ true → Tells (Domains ds) z (λ M. is_int_domain M v) → ReadsM (Domains ds) s z (λ M. is_int M v)
     int_mip e t = record { reads = λ M d c. mip_is M v (sym c.mip ∙ e) (t.tells M d) }
 
-pub int_lp : {ds : List ℕ} {s : Shape} (v : ℕ) → s.mip ≡ false → ReadsM (Domains ds) s s.mip (λ M. is_int M v)
+pub int_lp : {ds : List ℕ} {s : Context} (v : ℕ) → s.mip ≡ false → ReadsM (Domains ds) s s.mip (λ M. is_int M v)
 int_lp v e = record { reads = λ M d c. lp_is M v (sym c.mip ∙ e) ∙ sym e }
 
 -- ---- bound_tol
-module _ {s : Shape} {f : Floats} (v : ℕ) {upper : Bool} {x z : Float} where
+module _ {s : Context} {f : Floats} (v : ℕ) {upper : Bool} {x z : Float} where
   pub tol_upper : upper ≡ true → x ≡ get_or f.ehi v nan → z ≡ bound_tolerance s.feas x → ReadsF Any s f z (λ M w. bound_tol M w v upper)
   unfolding bound_tol
   tol_upper u ex ez =
@@ -66,7 +66,7 @@ module _ (t x y : Float) {lo : Float} {p : Bool} (el : lo ≡ x) (ep : p ≡ usu
   pub usual_not : p ≡ false → false ≡ (usual t x && usual t y)
   usual_not tp = sym (ap (λ (b : Bool). b && usual t y) (ap (usual t) (sym el) ∙ sym ep ∙ tp))
 
-module _ {s : Shape} {f : Floats} (v : ℕ) {z : Bool} (e : z ≡ (usual s.feas (get_or f.elo v nan) && usual s.feas (get_or f.ehi v nan))) (y : z ≡ true) where
+module _ {s : Context} {f : Floats} (v : ℕ) {z : Bool} (e : z ≡ (usual s.feas (get_or f.elo v nan) && usual s.feas (get_or f.ehi v nan))) (y : z ≡ true) where
   pub usual_lower : ReadsF Any s f s.feas (λ M w. bound_tol M w v false)
   usual_lower = tol_lower v refl refl (sym (usual_tolerance _ _ (and_left _ (usual s.feas (get_or f.ehi v nan)) (sym e ∙ y))))
 
@@ -78,7 +78,7 @@ module _ {f : Floats} (v : ℕ) {lo hi : Float} {b : Bool} (el : lo ≡ get_or f
   fixed_is : {M : Model} {n : Numbers} {o : List ℕ} {w : Work} → Shows M f n o w → fixed w v ≡ b
   fixed_is {w = w} h = sym (eb ∙ ap (λ (x : Float). fixed_at x hi) (elo_is v h el) ∙ ap (fixed_at (at w.elo v)) (ehi_is v h eh) ∙ fixed_of v w)
 
-  module _ {s : Shape} where
+  module _ {s : Context} where
     pub value_fixed : b ≡ true → ReadsF Any s f lo (λ M w. fixed_value w v)
     unfolding fixed_value
     value_fixed t = record { reads = λ M n o k w p c h i. yes _ _ (fixed_is h ∙ t) ∙ sym (elo_is v h el) }
@@ -88,7 +88,7 @@ module _ {f : Floats} (v : ℕ) {lo hi : Float} {b : Bool} (el : lo ≡ get_or f
     value_free t = record { reads = λ M n o k w p c h i. no _ _ (fixed_is h ∙ t) }
 
 -- ---- the emitted bounds of v, each with its tolerance
-pub record ReadsEnds (s : Shape) (f : Floats) (v : ℕ) (e : Ends) : Type 0 where
+pub record ReadsEnds (s : Context) (f : Floats) (v : ℕ) (e : Ends) : Type 0 where
   pub lo : e.lo ≡ get_or f.elo v nan
   pub hi : e.hi ≡ get_or f.ehi v nan
   pub tol_lo : ReadsF Any s f e.tol_lo (λ M w. bound_tol M w v false)

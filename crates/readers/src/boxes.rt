@@ -6,19 +6,19 @@ ghost use Rattle.view.specs.Acts.{Any};
 ghost use Rattle.readers.specs.Reading.{ReadsF};
 ghost use Rattle.readers.specs.Activity.{los_of, his_of};
 
-use space::{Ehi, Elo, Shape, Whi, Wlo};
+use space::{Context, Ehi, Elo, Whi, Wlo};
 
 pub trait Bounds {
     // Whether the bounds are the working ones.
     ghost working: { Bool };
 
-    fn lo(w: &[f64], s: Shape, v: usize) -> f64
-        requires { (v < s.vars) × HoldsF s w.now }
-        ensures { ReadsF Any s (floats_of s w.now) result (λ M u. at (los_of working u) v) };
+    fn lo(floats: &[f64], cx: Context, v: usize) -> f64
+        requires { (v < cx.vars) × HoldsF cx floats.now }
+        ensures { ReadsF Any cx (floats_of cx floats.now) result (λ M u. at (los_of working u) v) };
 
-    fn hi(w: &[f64], s: Shape, v: usize) -> f64
-        requires { (v < s.vars) × HoldsF s w.now }
-        ensures { ReadsF Any s (floats_of s w.now) result (λ M u. at (his_of working u) v) };
+    fn hi(floats: &[f64], cx: Context, v: usize) -> f64
+        requires { (v < cx.vars) × HoldsF cx floats.now }
+        ensures { ReadsF Any cx (floats_of cx floats.now) result (λ M u. at (his_of working u) v) };
 }
 
 pub struct Working;
@@ -26,12 +26,12 @@ pub struct Working;
 impl Bounds for Working {
     ghost working = { true };
 
-    fn lo(w: &[f64], s: Shape, v: usize) -> f64 {
-        space::get::<Wlo>(w, s, v)
+    fn lo(floats: &[f64], cx: Context, v: usize) -> f64 {
+        space::get::<Wlo>(floats, cx, v)
     }
 
-    fn hi(w: &[f64], s: Shape, v: usize) -> f64 {
-        space::get::<Whi>(w, s, v)
+    fn hi(floats: &[f64], cx: Context, v: usize) -> f64 {
+        space::get::<Whi>(floats, cx, v)
     }
 }
 
@@ -40,11 +40,11 @@ pub struct Emitted;
 impl Bounds for Emitted {
     ghost working = { false };
 
-    fn lo(w: &[f64], s: Shape, v: usize) -> f64 {
-        space::get::<Elo>(w, s, v)
+    fn lo(floats: &[f64], cx: Context, v: usize) -> f64 {
+        space::get::<Elo>(floats, cx, v)
     }
 
-    fn hi(w: &[f64], s: Shape, v: usize) -> f64 {
-        space::get::<Ehi>(w, s, v)
+    fn hi(floats: &[f64], cx: Context, v: usize) -> f64 {
+        space::get::<Ehi>(floats, cx, v)
     }
 }

@@ -9,7 +9,7 @@ ghost use Rattle.readers.specs.Reading.{row_of, Alive};
 ghost use Rattle.readers.specs.Coeffs.{place_of, ReadyTerm};
 ghost use Rattle.readers.specs.WrittenCoeffs.{ReadyWritten, ReadsWritten};
 
-use space::{Coeffs, Len, Shape, Vars};
+use space::{Coeffs, Context, Len, Vars};
 
 // Where term k of a row stands whose span is a up to e, with n live terms: the live ones come first,
 // then the folded ones.
@@ -22,19 +22,26 @@ pub fn place(a: usize, e: usize, n: usize, k: usize) -> usize
 
 // = coeff_of. A loop that yields the coefficient by its break, as a rule of the project has this walk: the
 // row has the variable, so there is no end to count to.
-pub fn row_coeff(starts: &[usize], w: &[f64], m: &[usize], s: Shape, r: usize, v: usize) -> f64
-    requires r_lt_rows { (r < s.rows) × HoldsF s w.now × HoldsN s m.now × Alive (numbers_of s m.now) r }
-    requires ready_term { ReadyTerm (Spans starts.now) s (floats_of s w.now) (numbers_of s m.now) r v }
-    ensures { Reads (Spans starts.now) s (floats_of s w.now) (numbers_of s m.now) result (λ M u. coeff_of (row_of u r) v) }
+pub fn row_coeff(
+    starts: &[usize],
+    floats: &[f64],
+    numbers: &[usize],
+    cx: Context,
+    r: usize,
+    v: usize,
+) -> f64
+    requires r_lt_rows { (r < cx.rows) × HoldsF cx floats.now × HoldsN cx numbers.now × Alive (numbers_of cx numbers.now) r }
+    requires ready_term { ReadyTerm (Spans starts.now) cx (floats_of cx floats.now) (numbers_of cx numbers.now) r v }
+    ensures { Reads (Spans starts.now) cx (floats_of cx floats.now) (numbers_of cx numbers.now) result (λ M u. coeff_of (row_of u r) v) }
 {
     let a = starts[r];
     let e = starts[r + 1];
-    let n = space::get::<Len>(m, s, r);
+    let n = space::get::<Len>(numbers, cx, r);
     let mut k = 0;
     let x = loop {
         let i = place(a, e, n, k);
-        if space::get::<Vars>(m, s, i) == v {
-            break space::get::<Coeffs>(w, s, i);
+        if space::get::<Vars>(numbers, cx, i) == v {
+            break space::get::<Coeffs>(floats, cx, i);
         }
         k += 1;
     };

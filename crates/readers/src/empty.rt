@@ -15,44 +15,44 @@ ghost use Rattle.readers.specs.Empty.{SpanAt, row_terms};
 
 use crate::vars::fixed_value;
 use definition::Rows;
-use space::Shape;
+use space::Context;
 use tolerances::{RowSum, trivial_row_verdict};
 
 // Of row r as handed in.
-pub fn verdict(rows: Rows, s: Shape, r: usize) -> Option<bool>
+pub fn verdict(rows: Rows, cx: Context, r: usize) -> Option<bool>
     requires { RowIn rows r }
-    ensures { option_of result ≡ trivial_verdict s.feas (get_or rows.entry.cmp.now r 0) (get_or rows.entry.starts.now (r + 1) 0 - get_or rows.entry.starts.now r 0) (get_or rows.entry.rhs.now r nan) }
+    ensures { option_of result ≡ trivial_verdict cx.feas (get_or rows.entry.cmp.now r 0) (get_or rows.entry.starts.now (r + 1) 0 - get_or rows.entry.starts.now r 0) (get_or rows.entry.rhs.now r nan) }
 {
     let a = rows.starts[r];
     let e = rows.starts[r + 1];
-    trivial_row_verdict(e - a, rows.cmp[r], rows.rhs[r], s.feas)
+    trivial_row_verdict(e - a, rows.cmp[r], rows.rhs[r], cx.feas)
 }
 
 // The sum over the terms of row r as written, from its right side. Not `Row::implied_slack` over a closure: the values
 // stand in the working space, and what is promised is so of every state that it shows.
-fn fixed_sum(rows: Rows, w: &[f64], s: Shape, r: usize) -> RowSum
-    requires span { SpanAt s rows r × HoldsF s w.now }
-    ensures { ReadsF Any s (floats_of s w.now) (sum_of result) (λ M u. row_from (fixed_value u) (row_start (get_or rows.entry.rhs.now r nan)) (row_terms rows.entry r)) }
+fn fixed_sum(rows: Rows, floats: &[f64], cx: Context, r: usize) -> RowSum
+    requires span { SpanAt cx rows r × HoldsF cx floats.now }
+    ensures { ReadsF Any cx (floats_of cx floats.now) (sum_of result) (λ M u. row_from (fixed_value u) (row_start (get_or rows.entry.rhs.now r nan)) (row_terms rows.entry r)) }
 {
     let a = rows.starts[r];
     let e = rows.starts[r + 1];
     let mut sum = RowSum::start(rows.rhs[r]);
     for (v, coeff) in rows.index[a..e].iter().zip(&rows.coeff[a..e]) {
-        sum = sum.with(*coeff, fixed_value(w, s, *v));
+        sum = sum.with(*coeff, fixed_value(floats, cx, *v));
     }
     sum
 }
 
 // = violated at fixed_value
-pub fn empty_row_violated(rows: Rows, w: &[f64], s: Shape, r: usize) -> bool
-    requires r_lt_rows { (r < s.rows) × HoldsF s w.now }
-    requires ready_f { ReadyF (Written rows) s (floats_of s w.now) }
-    ensures { ReadsF (Written rows.entry) s (floats_of s w.now) result (λ M u. violated M.feas (op_of M r) (written M r) (rhs_of M r) (fixed_value u)) }
+pub fn empty_row_violated(rows: Rows, floats: &[f64], cx: Context, r: usize) -> bool
+    requires r_lt_rows { (r < cx.rows) × HoldsF cx floats.now }
+    requires ready_f { ReadyF (Written rows) cx (floats_of cx floats.now) }
+    ensures { ReadsF (Written rows.entry) cx (floats_of cx floats.now) result (λ M u. violated M.feas (op_of M r) (written M r) (rhs_of M r) (fixed_value u)) }
 {
-    if verdict(rows, s, r).unwrap_or(false) {
+    if verdict(rows, cx, r).unwrap_or(false) {
         return false;
     }
-    fixed_sum(rows, w, s, r)
+    fixed_sum(rows, floats, cx, r)
         .slack()
-        .violates(rows.cmp[r], s.feas)
+        .violates(rows.cmp[r], cx.feas)
 }

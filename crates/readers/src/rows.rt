@@ -16,30 +16,30 @@ use crate::boxes::Bounds;
 use crate::vars::bound_tol;
 use definition::Activity;
 use formulas::{Ends, Limits, activity_step, no_activity};
-use space::{Coeffs, Ehi, Elo, FoldScale, Hi, Len, Lo, Shape, Shift, Vars};
+use space::{Coeffs, Context, Ehi, Elo, FoldScale, Hi, Len, Lo, Shift, Vars};
 
 // The row's four floats, beside how many terms it has as written.
-pub fn limits(w: &[f64], s: Shape, r: usize, terms: usize) -> Limits
-    requires { (r < s.rows) × HoldsF s w.now }
-    ensures { ReadsLimits s (floats_of s w.now) r terms result }
+pub fn limits(floats: &[f64], cx: Context, r: usize, terms: usize) -> Limits
+    requires { (r < cx.rows) × HoldsF cx floats.now }
+    ensures { ReadsLimits cx (floats_of cx floats.now) r terms result }
 {
     Limits {
-        lo: space::get::<Lo>(w, s, r),
-        hi: space::get::<Hi>(w, s, r),
-        fold_scale: space::get::<FoldScale>(w, s, r),
-        shift: space::get::<Shift>(w, s, r),
-        feas: s.feas,
+        lo: space::get::<Lo>(floats, cx, r),
+        hi: space::get::<Hi>(floats, cx, r),
+        fold_scale: space::get::<FoldScale>(floats, cx, r),
+        shift: space::get::<Shift>(floats, cx, r),
+        feas: cx.feas,
         terms,
     }
 }
 
 // Whether both emitted bounds of v are of usual size.
-fn usual_bounds(w: &[f64], s: Shape, v: usize) -> bool
-    requires { (v < s.vars) × HoldsF s w.now }
-    ensures { result ≡ (usual s.feas (get_or (floats_of s w.now).elo v nan) && usual s.feas (get_or (floats_of s w.now).ehi v nan)) }
+fn usual_bounds(floats: &[f64], cx: Context, v: usize) -> bool
+    requires { (v < cx.vars) × HoldsF cx floats.now }
+    ensures { result ≡ (usual cx.feas (get_or (floats_of cx floats.now).elo v nan) && usual cx.feas (get_or (floats_of cx floats.now).ehi v nan)) }
 {
-    tolerances::usual(s.feas, space::get::<Elo>(w, s, v))
-        && tolerances::usual(s.feas, space::get::<Ehi>(w, s, v))
+    tolerances::usual(cx.feas, space::get::<Elo>(floats, cx, v))
+        && tolerances::usual(cx.feas, space::get::<Ehi>(floats, cx, v))
 }
 
 // = activity_step, its variable within lo..hi. Mostly both tolerances are the absolute part alone.
@@ -47,50 +47,78 @@ fn usual_bounds(w: &[f64], s: Shape, v: usize) -> bool
 // of both would be taken apart again at each use.
 // Compiled into the walk over a row's terms, so that the activity stays in registers.
 #[inline(always)]
-fn term_within(w: &[f64], s: Shape, v: usize, a: f64, lo: f64, hi: f64, act: Activity) -> Activity
-    requires { (v < s.vars) × HoldsF s w.now × (act.ninf_l + 1 < 2 ^ 64) × (act.ninf_u + 1 < 2 ^ 64) }
-    ensures { ReadsF Any s (floats_of s w.now) result (λ M u. definition.activity_step M u lo hi (term v a) act) }
+fn term_within(
+    floats: &[f64],
+    cx: Context,
+    v: usize,
+    a: f64,
+    lo: f64,
+    hi: f64,
+    act: Activity,
+) -> Activity
+    requires { (v < cx.vars) × HoldsF cx floats.now × (act.ninf_l + 1 < 2 ^ 64) × (act.ninf_u + 1 < 2 ^ 64) }
+    ensures { ReadsF Any cx (floats_of cx floats.now) result (λ M u. definition.activity_step M u lo hi (term v a) act) }
 {
-    if usual_bounds(w, s, v) {
+    if usual_bounds(floats, cx, v) {
         let ends = Ends {
             lo,
             hi,
-            tol_lo: s.feas,
-            tol_hi: s.feas,
+            tol_lo: cx.feas,
+            tol_hi: cx.feas,
         };
         return activity_step(act, a, ends);
     }
     let ends = Ends {
         lo,
         hi,
-        tol_lo: bound_tol(w, s, v, false),
-        tol_hi: bound_tol(w, s, v, true),
+        tol_lo: bound_tol(floats, cx, v, false),
+        tol_hi: bound_tol(floats, cx, v, true),
     };
     activity_step(act, a, ends)
 }
 
 // = activity_step over the box that is asked for
-fn activity_term<B: Bounds>(w: &[f64], s: Shape, v: usize, a: f64, act: Activity) -> Activity
-    requires { (v < s.vars) × HoldsF s w.now × (act.ninf_l + 1 < 2 ^ 64) × (act.ninf_u + 1 < 2 ^ 64) }
-    ensures { ReadsF Any s (floats_of s w.now) result (λ M u. definition.activity_step M u (at (los_of B.working u) v) (at (his_of B.working u) v) (term v a) act) }
+fn activity_term<B: Bounds>(
+    floats: &[f64],
+    cx: Context,
+    v: usize,
+    a: f64,
+    act: Activity,
+) -> Activity
+    requires { (v < cx.vars) × HoldsF cx floats.now × (act.ninf_l + 1 < 2 ^ 64) × (act.ninf_u + 1 < 2 ^ 64) }
+    ensures { ReadsF Any cx (floats_of cx floats.now) result (λ M u. definition.activity_step M u (at (los_of B.working u) v) (at (his_of B.working u) v) (term v a) act) }
 {
-    term_within(w, s, v, a, B::lo(w, s, v), B::hi(w, s, v), act)
+    term_within(
+        floats,
+        cx,
+        v,
+        a,
+        B::lo(floats, cx, v),
+        B::hi(floats, cx, v),
+        act,
+    )
 }
 
 // = activity, over the working bounds or the emitted ones: `activity::<Working>` is compiled into its
 // one caller, since every row of every wave has it.
-pub fn activity<B: Bounds>(starts: &[usize], w: &[f64], m: &[usize], s: Shape, r: usize) -> Activity
-    requires r_lt_rows { (r < s.rows) × HoldsF s w.now × HoldsN s m.now × Alive (numbers_of s m.now) r }
-    requires ready { Ready (Spans starts.now) s (floats_of s w.now) (numbers_of s m.now) }
-    ensures { Reads (Spans starts.now) s (floats_of s w.now) (numbers_of s m.now) result (λ M u. definition.activity M u (row_of u r) B.working) }
+pub fn activity<B: Bounds>(
+    starts: &[usize],
+    floats: &[f64],
+    numbers: &[usize],
+    cx: Context,
+    r: usize,
+) -> Activity
+    requires r_lt_rows { (r < cx.rows) × HoldsF cx floats.now × HoldsN cx numbers.now × Alive (numbers_of cx numbers.now) r }
+    requires ready { Ready (Spans starts.now) cx (floats_of cx floats.now) (numbers_of cx numbers.now) }
+    ensures { Reads (Spans starts.now) cx (floats_of cx floats.now) (numbers_of cx numbers.now) result (λ M u. definition.activity M u (row_of u r) B.working) }
 {
     let a = starts[r];
-    let n = space::get::<Len>(m, s, r);
+    let n = space::get::<Len>(numbers, cx, r);
     let mut act = no_activity();
     for i in 0..n {
-        let v = space::get::<Vars>(m, s, a + i);
-        let x = space::get::<Coeffs>(w, s, a + i);
-        act = activity_term::<B>(w, s, v, x, act);
+        let v = space::get::<Vars>(numbers, cx, a + i);
+        let x = space::get::<Coeffs>(floats, cx, a + i);
+        act = activity_term::<B>(floats, cx, v, x, act);
     }
     act
 }

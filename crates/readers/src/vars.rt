@@ -10,7 +10,7 @@ ghost use Rattle.readers.specs.Reading.{ReadsF, ReadsM, Tells, Domains};
 ghost use Rattle.readers.specs.Vars.{ReadsEnds};
 
 use formulas::Ends;
-use space::{Ehi, Elo, Shape};
+use space::{Context, Ehi, Elo};
 
 // = is_int_domain
 pub fn is_int_domain(domain: &[u8], v: usize) -> bool
@@ -21,45 +21,45 @@ pub fn is_int_domain(domain: &[u8], v: usize) -> bool
 }
 
 // = is_int
-pub fn is_int(domain: &[u8], s: Shape, v: usize) -> bool
+pub fn is_int(domain: &[u8], cx: Context, v: usize) -> bool
     requires { v < length domain.now }
-    ensures { ReadsM (Domains domain.now) s result (λ M. is_int M v) }
+    ensures { ReadsM (Domains domain.now) cx result (λ M. is_int M v) }
 {
-    s.mip && is_int_domain(domain, v)
+    cx.mip && is_int_domain(domain, v)
 }
 
 // = bound_tol. `upper` is a flag, as the definition's bound_tol has it: one function with that parameter is plainer
 // than two.
-pub fn bound_tol(w: &[f64], s: Shape, v: usize, upper: bool) -> f64
-    requires { (v < s.vars) × HoldsF s w.now }
-    ensures { ReadsF Any s (floats_of s w.now) result (λ M u. bound_tol M u v upper) }
+pub fn bound_tol(floats: &[f64], cx: Context, v: usize, upper: bool) -> f64
+    requires { (v < cx.vars) × HoldsF cx floats.now }
+    ensures { ReadsF Any cx (floats_of cx floats.now) result (λ M u. bound_tol M u v upper) }
 {
     if upper {
-        tolerances::bound_tolerance(s.feas, space::get::<Ehi>(w, s, v))
+        tolerances::bound_tolerance(cx.feas, space::get::<Ehi>(floats, cx, v))
     } else {
-        tolerances::bound_tolerance(s.feas, space::get::<Elo>(w, s, v))
+        tolerances::bound_tolerance(cx.feas, space::get::<Elo>(floats, cx, v))
     }
 }
 
 // The emitted bounds of v, each with its tolerance.
-pub fn emitted(w: &[f64], s: Shape, v: usize) -> Ends
-    requires { (v < s.vars) × HoldsF s w.now }
-    ensures { ReadsEnds s (floats_of s w.now) v result }
+pub fn emitted(floats: &[f64], cx: Context, v: usize) -> Ends
+    requires { (v < cx.vars) × HoldsF cx floats.now }
+    ensures { ReadsEnds cx (floats_of cx floats.now) v result }
 {
     Ends {
-        lo: space::get::<Elo>(w, s, v),
-        hi: space::get::<Ehi>(w, s, v),
-        tol_lo: bound_tol(w, s, v, false),
-        tol_hi: bound_tol(w, s, v, true),
+        lo: space::get::<Elo>(floats, cx, v),
+        hi: space::get::<Ehi>(floats, cx, v),
+        tol_lo: bound_tol(floats, cx, v, false),
+        tol_hi: bound_tol(floats, cx, v, true),
     }
 }
 
 // = fixed_value
-pub(crate) fn fixed_value(w: &[f64], s: Shape, v: usize) -> f64
-    requires { (v < s.vars) × HoldsF s w.now }
-    ensures { ReadsF Any s (floats_of s w.now) result (λ M u. fixed_value u v) }
+pub(crate) fn fixed_value(floats: &[f64], cx: Context, v: usize) -> f64
+    requires { (v < cx.vars) × HoldsF cx floats.now }
+    ensures { ReadsF Any cx (floats_of cx floats.now) result (λ M u. fixed_value u v) }
 {
-    let lo = space::get::<Elo>(w, s, v);
-    let hi = space::get::<Ehi>(w, s, v);
+    let lo = space::get::<Elo>(floats, cx, v);
+    let hi = space::get::<Ehi>(floats, cx, v);
     if formulas::fixed_at(lo, hi) { lo } else { 0.0 }
 }

@@ -8,7 +8,7 @@ use Rattle.definition.specs.Model.{Model, Answer, infeasible}
 use Rattle.definition.specs.Work.{Work, Step, next}
 use Rattle.definition.specs.Emit.{final, answer_of}
 use Rattle.definition.specs.Presolve.{finish, presolve}
-use Rattle.space.specs.declared.Shape.{Shape}
+use Rattle.space.specs.declared.Context.{Context}
 use Rattle.space.specs.Store.{Floats, Numbers}
 use Rattle.view.specs.declared.Lists.{Lists}
 use Rattle.view.specs.Call.{Call}
@@ -38,21 +38,21 @@ pub data Reduction (M : Model) (f : Floats) (n : Numbers) : Outcome → Answer �
   ended : {e₀ : Infeasible} {k : Counts} → Counted (tally_of n) k → Reduction M f n (Err e₀) (infeasible k)
   settled : {w : Work} {o : List ℕ} {k : ℕ} → Shows M f n o w → Inv M k w → Reduction M f n (Ok tt) (answer_of M (final w (out_of M w.rows (length M.rhs))))
 
-pub record Reduces (P : Model → Type 0) (s : Shape) (f : Floats) (n : Numbers) (z : Outcome) : Type 0 where
+pub record Reduces (P : Model → Type 0) (s : Context) (f : Floats) (n : Numbers) (z : Outcome) : Type 0 where
   pub does : (M : Model) → P M → Call M s → Reduction M f n z (presolve M)
 
 -- what the adjacency slice holds: each variable's rows, where presolve comes to its settled rows
-pub record Adjoins (P : Model → Type 0) (s : Shape) (adj : List ℕ) (z : Outcome) : Type 0 where
-  pub adjacency : z ≡ (Ok tt) → (M : Model) → P M → Call M s → Adjacency M adj
+pub record Adjoins (P : Model → Type 0) (s : Context) (adjacency : List ℕ) (z : Outcome) : Type 0 where
+  pub adjacency : z ≡ (Ok tt) → (M : Model) → P M → Call M s → Adjacency M adjacency
 
-pub adjoins_stopped : {e₀ : Infeasible} {P : Model → Type 0} {s : Shape} {adj : List ℕ} → Adjoins P s adj (Err e₀)
+pub adjoins_stopped : {e₀ : Infeasible} {P : Model → Type 0} {s : Context} {adjacency : List ℕ} → Adjoins P s adjacency (Err e₀)
 adjoins_stopped {e₀ = e₀} = record { adjacency = λ t. absurd (let z : ◌≡◌ {A = ℕ} 0 1 = cc in omega arith) }
 
-pub begins_is : {P : Model → Type 0} {s : Shape} {f : Floats} {n : Numbers} {adj : List ℕ} {z y : Outcome} → Begins P s f n adj z → z ≡ y → Begins P s f n adj y
-begins_is {P} {s} {f} {n} {adj} b e = subst (λ (x : Outcome). Begins P s f n adj x) e b
+pub begins_is : {P : Model → Type 0} {s : Context} {f : Floats} {n : Numbers} {adjacency : List ℕ} {z y : Outcome} → Begins P s f n adjacency z → z ≡ y → Begins P s f n adjacency y
+begins_is {P} {s} {f} {n} {adjacency} b e = subst (λ (x : Outcome). Begins P s f n adjacency x) e b
 
-pub adjoins_is : {P : Model → Type 0} {s : Shape} {adj : List ℕ} {z y : Outcome} → Adjoins P s adj z → z ≡ y → Adjoins P s adj y
-adjoins_is {P} {s} {adj} a e = subst (λ (x : Outcome). Adjoins P s adj x) e a
+pub adjoins_is : {P : Model → Type 0} {s : Context} {adjacency : List ℕ} {z y : Outcome} → Adjoins P s adjacency z → z ≡ y → Adjoins P s adjacency y
+adjoins_is {P} {s} {adjacency} a e = subst (λ (x : Outcome). Adjoins P s adjacency x) e a
 
 -- ---- the definition's end, step by step
 finish_stopped : {e₀ : Infeasible} {M : Model} {f : Floats} {n : Numbers} {o : List ℕ} {y : Step} → StepShown M f n o (Err e₀) y → Reduction M f n (Err e₀) (finish M y)
@@ -72,37 +72,37 @@ final_shown (went h) (goes i) = settled h i
 -- ---- reduce
 -- what the rounds read of the call
 abbrev pub lists_of : Input → Bor (List ℕ) → Lists
-lists_of x adj = record { rows = x.rows; domain = x.domain; adj = adj }
+lists_of x adjacency = record { rows = x.rows; domain = x.domain; adjacency = adjacency }
 
 module _ {input : Input} where
-  called_running : (adj : Bor (List ℕ)) (M : Model) → Called input M → Adjacency M adj.now → Running input.obj.now (lists_of input adj) input.mode M
-  called_running adj M p a =
+  called_running : (adjacency : Bor (List ℕ)) (M : Model) → Called input M → Adjacency M adjacency.now → Running input.obj.now (lists_of input adjacency) input.mode M
+  called_running adjacency M p a =
       record {
         obj = p.obj;
-        known = record { written = p.handed.written; domain = p.handed.limits.domain; adj = a };
+        known = record { written = p.handed.written; domain = p.handed.limits.domain; adjacency = a };
         mode = p.mode;
       }
 
-  module _ {s : Shape} (G : Given (Called input) s) where
+  module _ {s : Context} (G : Given (Called input) s) where
     pub given_handed : Given (Handed input) s
     given_handed = record { model = G.model; known = G.known.handed; call = G.call }
 
   -- infeasible at the start
-  pub reduce_ended : {s : Shape} {f₁ : Floats} {n₁ : Numbers} {js : List ℕ} {e₀ : Infeasible} → Begins (Handed input) s f₁ n₁ js (Err e₀) → Reduces (Called input) s f₁ n₁ (Err e₀)
+  pub reduce_ended : {s : Context} {f₁ : Floats} {n₁ : Numbers} {js : List ℕ} {e₀ : Infeasible} → Begins (Handed input) s f₁ n₁ js (Err e₀) → Reduces (Called input) s f₁ n₁ (Err e₀)
   reduce_ended {f₁ = f₁} {n₁ = n₁} {e₀ = e₀} b =
       record { does = λ M p c. let g = stopped_is (b.does M p.handed c) in subst (Reduction M f₁ n₁ (Err e₀)) (sym g.is) (ended g.counted) }
 
   -- the rounds only read the slice
-  pub adjoins_settled : {s : Shape} {f₁ : Floats} {n₁ : Numbers} {js : List ℕ} {z : Outcome} → Begins (Handed input) s f₁ n₁ js (Ok tt) → Adjoins (Called input) s js z
+  pub adjoins_settled : {s : Context} {f₁ : Floats} {n₁ : Numbers} {js : List ℕ} {z : Outcome} → Begins (Handed input) s f₁ n₁ js (Ok tt) → Adjoins (Called input) s js z
   adjoins_settled b = record { adjacency = λ _ M p c. b.adjacency refl M p.handed c }
 
-  module _ {s : Shape} {f₁ : Floats} {n₁ : Numbers} (adj : Bor (List ℕ)) where
-    module _ (b : Begins (Handed input) s f₁ n₁ adj.now (Ok tt)) where
-      running : (M : Model) → Called input M → Call M s → Running input.obj.now (lists_of input adj) input.mode M
-      running M p c = called_running adj M p (b.adjacency refl M p.handed c)
+  module _ {s : Context} {f₁ : Floats} {n₁ : Numbers} (adjacency : Bor (List ℕ)) where
+    module _ (b : Begins (Handed input) s f₁ n₁ adjacency.now (Ok tt)) where
+      running : (M : Model) → Called input M → Call M s → Running input.obj.now (lists_of input adjacency) input.mode M
+      running M p c = called_running adjacency M p (b.adjacency refl M p.handed c)
 
       -- the state that the rounds have
-      pub ready_rounds : Given (Called input) s → Ready (Running input.obj.now (lists_of input adj) input.mode) s f₁ n₁
+      pub ready_rounds : Given (Called input) s → Ready (Running input.obj.now (lists_of input adjacency) input.mode) s f₁ n₁
       ready_rounds G =
           let g = started_is (b.does G.model G.known.handed G.call) in
           record {
@@ -117,7 +117,7 @@ module _ {input : Input} where
           }
 
       -- infeasible in a round
-      pub reduce_stopped : {e₀ : Infeasible} {f₂ : Floats} {n₂ : Numbers} → Waves (Running input.obj.now (lists_of input adj) input.mode) s f₁ n₁ f₂ n₂ (Err e₀) rounds_of → Reduces (Called input) s f₂ n₂ (Err e₀)
+      pub reduce_stopped : {e₀ : Infeasible} {f₂ : Floats} {n₂ : Numbers} → Waves (Running input.obj.now (lists_of input adjacency) input.mode) s f₁ n₁ f₂ n₂ (Err e₀) rounds_of → Reduces (Called input) s f₂ n₂ (Err e₀)
       reduce_stopped {e₀} {f₂} {n₂} t =
           record {
             does = λ M p c.
@@ -126,7 +126,7 @@ module _ {input : Input} where
                 subst (Reduction M f₂ n₂ (Err e₀)) (sym g.is) (finish_stopped a.step);
           }
 
-      module _ {f₂ : Floats} {n₂ : Numbers} (t : Waves (Running input.obj.now (lists_of input adj) input.mode) s f₁ n₁ f₂ n₂ (Ok tt) rounds_of) where
+      module _ {f₂ : Floats} {n₂ : Numbers} (t : Waves (Running input.obj.now (lists_of input adjacency) input.mode) s f₁ n₁ f₂ n₂ (Ok tt) rounds_of) where
         -- the state that is settled
         pub ready_settle : Given (Called input) s → Ready (Written input.rows) s f₂ n₂
         ready_settle G = ready_under known_written (ready_under running_known (ready_afresh (ready_rounds G) t rounds_keeps))
@@ -141,7 +141,7 @@ module _ {input : Input} where
                   let r = running M p c in
                   let a = t.does M n₁.wave 0 g.work r c g.shows g.inv in
                   let d = went_is a.step in
-                  let i = inv_next ((rounds_keeps {P = Running input.obj.now (lists_of input adj) input.mode} {s = s}).keeps M 0 g.work r c g.inv) d.is in
+                  let i = inv_next ((rounds_keeps {P = Running input.obj.now (lists_of input adjacency) input.mode} {s = s}).keeps M 0 g.work r c g.inv) d.is in
                   let x = p.handed.written in
                   let v = final_shown (u.does M a.other 0 d.work x c d.shows i) ((from_keeps {P = Written input.rows} {s = s} s.rows (omega arith)).keeps M 0 d.work x c i) in
                   let e : presolve M ≡ answer_of M (final_of M (length M.rhs) (settle_from M s.rows 0 d.work)) =
@@ -150,7 +150,7 @@ module _ {input : Input} where
             }
 
 -- ---- what the next step has of it
-pub reduces_is : {P : Model → Type 0} {s : Shape} {f : Floats} {n : Numbers} {z y : Outcome} → Reduces P s f n z → z ≡ y → Reduces P s f n y
+pub reduces_is : {P : Model → Type 0} {s : Context} {f : Floats} {n : Numbers} {z y : Outcome} → Reduces P s f n z → z ≡ y → Reduces P s f n y
 reduces_is {P} {s} {f} {n} r e = subst (λ (x : Outcome). Reduces P s f n x) e r
 
 -- infeasible, with the counts that the numbers show

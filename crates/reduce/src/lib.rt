@@ -8,29 +8,29 @@ ghost use Rattle.folds.specs.Written.{Given};
 ghost use Rattle.reduce.specs.Reducing.{Called, Reduces, Adjoins};
 
 use definition::{Infeasible, Input};
-use space::Shape;
+use space::Context;
 use view::Lists;
 
-// = presolve: infeasible, with the counts in m, or the slices show the state that its answer is read off, and adj holds each
+// = presolve: infeasible, with the counts in numbers, or the slices show the state that its answer is read off, and adjacency holds each
 // variable's rows. Of an infeasible call nothing else is said of the three slices, which the caller clears.
 pub fn reduce(
     input: Input,
-    adj: &mut [usize],
-    w: &mut [f64],
-    m: &mut [usize],
-    s: Shape,
+    adjacency: &mut [usize],
+    floats: &mut [f64],
+    numbers: &mut [usize],
+    cx: Context,
 ) -> Result<(), Infeasible>
-    requires holds_f { HoldsF s w.old × HoldsN s m.old × (s.vars + 1 + s.terms ≤ length adj.old) }
-    requires given { Given (Called input) s }
-    ensures reduces { Reduces (Called input.entry) s (floats_of s w.new) (numbers_of s m.new) result }
-    ensures adjoins { Adjoins (Called input.entry) s adj.new result }
+    requires holds_f { HoldsF cx floats.old × HoldsN cx numbers.old × (cx.vars + 1 + cx.terms ≤ length adjacency.old) }
+    requires given { Given (Called input) cx }
+    ensures reduces { Reduces (Called input.entry) cx (floats_of cx floats.new) (numbers_of cx numbers.new) result }
+    ensures adjoins { Adjoins (Called input.entry) cx adjacency.new result }
 {
-    begin::begin(input, adj, w, m, s)?;
+    begin::begin(input, adjacency, floats, numbers, cx)?;
     let lists = Lists {
         rows: input.rows,
         domain: input.domain,
-        adj,
+        adjacency,
     };
-    rounds::rounds(input.obj, lists, w, m, s, input.mode)?;
-    settle::settle_rows(input.rows, w, m, s)
+    rounds::rounds(input.obj, lists, floats, numbers, cx, input.mode)?;
+    settle::settle_rows(input.rows, floats, numbers, cx)
 }

@@ -8,7 +8,7 @@ use Rattle.definition.specs.Model.{Model, is_mip}
 use Rattle.definition.specs.Refusal.{Lent, floats_needed, numbers_needed, adjacency_needed, lengths_disagree, too_large, starts_wrong, indices_wrong}
 use Rattle.definition.specs.Refusal.{codes_wrong, bounds_wrong, numbers_wrong, rhses_wrong, tolerances_wrong, too_short, earliest, refusal}
 use Rattle.definition.specs.Accepted.{accepted_shaped}
-use Rattle.space.specs.declared.Shape.{Shape}
+use Rattle.space.specs.declared.Context.{Context}
 use Rattle.view.specs.Call.{Call}
 use Rattle.refuse.specs.Rows.{neither, lengths_agree, sizes_small}
 
@@ -57,7 +57,7 @@ accepted M L e =
     }
 
 -- s has the model's scalars
-pub record Scalars (M : Model) (s : Shape) : Type 0 where
+pub record Scalars (M : Model) (s : Context) : Type 0 where
   pub vars : s.vars ≡ length M.lower
   pub rows : s.rows ≡ length M.rhs
   pub terms : s.terms ≡ length M.index
@@ -65,7 +65,7 @@ pub record Scalars (M : Model) (s : Shape) : Type 0 where
   pub feas : s.feas ≡ M.feas
 
 -- AN ACCEPTED CALL is a call
-pub call_of : (M : Model) (L : Lent) (s : Shape) → refusal M L ≡ none → M.params ≡ params → Scalars M s → Call M s
+pub call_of : (M : Model) (L : Lent) (s : Context) → refusal M L ≡ none → M.params ≡ params → Scalars M s → Call M s
 call_of M L s e p c =
     let a = accepted M L e in
     let g = lengths_agree M a.lengths in
@@ -94,7 +94,7 @@ call_of M L s e p c =
     }
 
 -- ---- the lent slices: each result slice has as many entries as there are variables, rows or terms, and the working slices hold their blocks
-pub record Room (s : Shape) (L : Lent) : Type 0 where
+pub record Room (s : Context) (L : Lent) : Type 0 where
   pub lower : s.vars ≤ L.lower
   pub upper : s.vars ≤ L.upper
   pub emit_row : s.rows ≤ L.emit_row
@@ -114,7 +114,7 @@ enough : (a : Bool) (have need : ℕ) → (a || ltb have need) ≡ false → (a 
 enough a have need e = let p = neither a (ltb have need) e in (p.0, ltb-false have need p.1)
 
 -- AN ACCEPTED CALL has room
-pub room_of : (M : Model) (L : Lent) (s : Shape) → refusal M L ≡ none → Scalars M s → Room s L
+pub room_of : (M : Model) (L : Lent) (s : Context) → refusal M L ≡ none → Scalars M s → Room s L
 unfolding too_short floats_needed numbers_needed adjacency_needed
 room_of M L s e c =
     let a = accepted M L e in

@@ -17,7 +17,7 @@ use Rattle.formulas.specs.declared.Form.TheVariants.{Le, Ge}
 use Rattle.formulas.specs.declared.Rewrite as rewrites
 use Rattle.formulas.specs.declared.Rebound.{Rebound}
 use Rattle.formulas.specs.Rewriting.{form_is, maybe_form, bound_is, rewrite_is, maybe_rewrite}
-use Rattle.space.specs.declared.Shape.{Shape}
+use Rattle.space.specs.declared.Context.{Context}
 use Rattle.space.specs.Store.{Floats, Numbers, put_lo, put_hi, put_coeffs}
 use Rattle.view.specs.Call.{Call}
 use Rattle.view.specs.Shows.{Shows}
@@ -41,13 +41,13 @@ unfolding set_coeff
 set_alive i v y x = refl
 
 -- the live term at place i of row r is v's
-pub record Placed (ss : List ℕ) (s : Shape) (n : Numbers) (r i v : ℕ) : Type 0 where
+pub record Placed (ss : List ℕ) (s : Context) (n : Numbers) (r i v : ℕ) : Type 0 where
   pub row : r < s.rows
   pub alive : Alive n r
   pub live : i < get_or n.len r 0
   pub var : v ≡ get_or n.vars (get_or ss r 0 + i) 0
 
-module _ {ss : List ℕ} {s : Shape} {f : Floats} {n : Numbers} {r i v : ℕ} (D : Placed ss s n r i v) where
+module _ {ss : List ℕ} {s : Context} {f : Floats} {n : Numbers} {r i v : ℕ} (D : Placed ss s n r i v) where
   term_in : {M : Model} {o : List ℕ} {w : Work} → Call M s → Shows M f n o w → i < length (row_of w r).terms
   term_in c h = omega (arith, D.live, (row_shown c h D.row D.alive).len)
 
@@ -137,11 +137,11 @@ module _ (M : Model) (w : Work) (x : Row) (i v : ℕ) (a na bp : Float) {b grown
   ge_is e = ge_row x.lo e
 
 -- a row that is left alone
-pub same_acts : {P : Model → Type 0} {s : Shape} {f : Floats} {n : Numbers} {r : ℕ} → r < s.rows → Alive n r → Acts P s f n f n (λ M w. with_row r (row_of w r) w)
+pub same_acts : {P : Model → Type 0} {s : Context} {f : Floats} {n : Numbers} {r : ℕ} → r < s.rows → Alive n r → Acts P s f n f n (λ M w. with_row r (row_of w r) w)
 same_acts p al = turns_acts {F = λ M w x. x} p al (record { does = λ M w x q c h. one_none h })
 
 -- f₁ has the coefficient, f₂ and n₂ the binding, f₃ the bound
-module _ {ss : List ℕ} {s : Shape} {f : Floats} {n : Numbers} {r i v : ℕ} (a na b bp : Float) (D : Placed ss s n r i v) (z : eq na 0f ≡ false)
+module _ {ss : List ℕ} {s : Context} {f : Floats} {n : Numbers} {r i v : ℕ} (a na b bp : Float) (D : Placed ss s n r i v) (z : eq na 0f ≡ false)
     (R : Ready (Spans ss) s f n) (lc : length f.coeffs ≡ s.terms) {f₁ f₂ : Floats} {n₂ : Numbers} (e₁ : f₁ ≡ put_coeffs (get_or ss r 0 + i) na f)
     {grown : Float} (A : Acts (Spans ss) s f₁ n f₂ n₂ (λ M w. with_row r (rebound r v a b bp M w) w)) (T : Reads (Spans ss) s f₁ n grown (rebound_growth r v a b bp)) where
   both_acts : Acts (Spans ss) s f n f₂ n₂ (λ M w. with_row r (both_of i v a na b bp M w (row_of w r)) w)
@@ -186,14 +186,14 @@ module _ {ss : List ℕ} {s : Shape} {f : Floats} {n : Numbers} {r i v : ℕ} (a
       (λ M o k w q c h j. ge_is M w (row_of w r) i v a na bp (both_growth.reads M o k w q c h j) (eb ∙ ap (λ (g : Floats). get_or g.lo r nan) e₁ ∙ (row_shown c h D.row D.alive).lo))
 
 -- ---- by the form, and by the rewrite
-abbrev pub Rebounds : (Model → Type 0) → Shape → Floats → Numbers → Floats → Numbers → ℕ → ℕ → ℕ → Float → Float → Float → Form → Type 0
+abbrev pub Rebounds : (Model → Type 0) → Context → Floats → Numbers → Floats → Numbers → ℕ → ℕ → ℕ → Float → Float → Float → Form → Type 0
 Rebounds P s f n f' n' r i v a na bp g = Acts P s f n f' n' (λ M w. with_row r (rebound_row M g w (row_of w r) i v a na bp) w)
 
 rebound_row_lem : (M : Model) (w : Work) (x : Row) (i v : ℕ) (a na bp : Float) → rebound_row M no_form w x i v a na bp ≡ x
 unfolding rebound_row
 rebound_row_lem M w x i v a na bp = refl
 
-module _ {P : Model → Type 0} {s : Shape} {f : Floats} {n : Numbers} (r i v : ℕ) (a na bp : Float) where
+module _ {P : Model → Type 0} {s : Context} {f : Floats} {n : Numbers} (r i v : ℕ) (a na bp : Float) where
   module _ {f' : Floats} {n' : Numbers} {g : forms.Form} where
     pub rebound_le : g ≡ Le → Rebounds P s f n f' n' r i v a na bp le_form → Rebounds P s f n f' n' r i v a na bp (form_is g)
     rebound_le e A = subst (λ (h : forms.Form). Rebounds P s f n f' n' r i v a na bp (form_is h)) (sym e) A
@@ -211,10 +211,10 @@ module _ {P : Model → Type 0} {s : Shape} {f : Floats} {n : Numbers} (r i v : 
         does = λ M o k w q c h j. subst (λ (y : Row). Shows M f n o (with_row r y w)) (sym (rebound_row_lem M w (row_of w r) i v a na bp)) ((same_acts {P = P} p al).does M o k w q c h j);
       })
 
-abbrev pub Afters : (Model → Type 0) → Shape → Floats → Numbers → Floats → Numbers → ℕ → ℕ → ℕ → Float → Form → Rewrite → Type 0
+abbrev pub Afters : (Model → Type 0) → Context → Floats → Numbers → Floats → Numbers → ℕ → ℕ → ℕ → Float → Form → Rewrite → Type 0
 Afters P s f n f' n' r i v a g x = Acts P s f n f' n' (λ M w. with_row r (row_after M g w (row_of w r) i (term v a) x) w)
 
-module _ {P : Model → Type 0} {s : Shape} {f : Floats} {n : Numbers} (r i v : ℕ) (a : Float) (g : Form) where
+module _ {P : Model → Type 0} {s : Context} {f : Floats} {n : Numbers} (r i v : ℕ) (a : Float) (g : Form) where
   keeps_after : r < s.rows → Alive n r → Afters P s f n f n r i v a g keeps
   unfolding row_after
   keeps_after p al = same_acts p al
@@ -253,7 +253,7 @@ pub some_nonzero : {x : Option rewrites.Rewrite} {z : rewrites.Rewrite} → x �
 some_nonzero e h = subst (λ (y : Option rewrites.Rewrite). Nonzero (maybe_rewrite y)) e h
 
 -- ---- what row_after keeps
-pub row_after_keeps : {M : Model} {k : ℕ} {s : Shape} {r : ℕ} (g : Form) (i : ℕ) (x : Rewrite) (w : Work) → Call M s → r < s.rows → (row_of w r).alive ≡ true
+pub row_after_keeps : {M : Model} {k : ℕ} {s : Context} {r : ℕ} (g : Form) (i : ℕ) (x : Rewrite) (w : Work) → Call M s → r < s.rows → (row_of w r).alive ≡ true
     → i < length (row_of w r).terms → Nonzero x → Inv M k w
     → Inv M k (with_row r (row_after M g w (row_of w r) i (get_or (row_of w r).terms i no_term) x) w)
 row_after_keeps {r = r} g i x w c p al l z j = inv_row r _ w j (λ _. after_inv g w (row_of w r) i x l z (j.rows r (omega (arith, p, c.rows)) al))

@@ -11,7 +11,7 @@ use Rattle.definition.specs.Model.{Model, Row, Binding, with_binding, rhs_mag, c
 use Rattle.definition.specs.Work.{Work, with_row, no_term, has}
 use Rattle.definition.specs.Folds.{fixed_besides_from, fixed_besides, rewrite_room}
 use Rattle.definition.specs.Bindings.{sum_coeffs, taken, rewrite_binding, growth}
-use Rattle.space.specs.declared.Shape.{Shape}
+use Rattle.space.specs.declared.Context.{Context}
 use Rattle.space.specs.Store.{Floats, Numbers}
 use Rattle.view.specs.Call.{Call}
 use Rattle.view.specs.Shows.{Shows, Parts, BindingShown, unbound, is_bound}
@@ -152,7 +152,7 @@ nonzero_at v (t ∷ ts) us (suc i) p e z = later (eqb t.var v && not (eq t.coeff
     later true e = refl
     later false e = e
 
-module _ {ss : List ℕ} {s : Shape} {f : Floats} {n : Numbers} {r v : ℕ} (p : r < s.rows) (al : Alive n r) (L : LiveAt ss f n r v) where
+module _ {ss : List ℕ} {s : Context} {f : Floats} {n : Numbers} {r v : ℕ} (p : r < s.rows) (al : Alive n r) (L : LiveAt ss f n r v) where
   live_nonzero : {M : Model} {o : List ℕ} {k : ℕ} {w : Work} → Spans ss M → Call M s → Shows M f n o w → Inv M k w → has_nonzero v ((row_of w r).terms ++ (row_of w r).folded) ≡ true
   live_nonzero {w = w} q c h i =
       let y = row_at c h p al i q in
@@ -180,7 +180,7 @@ rebound r v a b bp M w = with_binding (some (rewrite_binding M w (row_of w r) v 
 abbrev pub rebound_growth : ℕ → ℕ → Float → Float → Float → Model → Work → Float
 rebound_growth r v a b bp M w = growth M b (row_of w r) (rewrite_binding M w (row_of w r) v a b bp)
 
-module _ {ss : List ℕ} {s : Shape} {f : Floats} {n : Numbers} {r : ℕ} (v : ℕ) (p : r < s.rows) (al : Alive n r) {z : Bool}
+module _ {ss : List ℕ} {s : Context} {f : Floats} {n : Numbers} {r : ℕ} (v : ℕ) (p : r < s.rows) (al : Alive n r) {z : Bool}
     (t : TellsN (Spans ss) s r n z (λ M w x. has v (binaries_of x.binding))) where
   has_is : {M : Model} {o : List ℕ} {w : Work} → Spans ss M → Call M s → Shows M f n o w → has v (binaries_of (row_of w r).binding) ≡ z
   has_is {M} {o} {w} q c h = t.tells f M w (row_of w r) q c (stands_in c p al h)

@@ -8,7 +8,7 @@ use Rattle.definition.specs.Model.{Model, Row, Binding, with_binding, rhs_mag}
 use Rattle.definition.specs.Work.{Work, with_row}
 use Rattle.definition.specs.Folds.{fixed_besides, rewrite_room}
 use Rattle.definition.specs.Bindings.{sum_coeffs}
-use Rattle.space.specs.declared.Shape.{Shape}
+use Rattle.space.specs.declared.Context.{Context}
 use Rattle.space.specs.Store.{Floats, Numbers, put_rewritten, put_kept}
 use Rattle.view.specs.Call.{Call}
 use Rattle.view.specs.Shows.{Shows, parts_of}
@@ -37,7 +37,7 @@ mag_is x b e = ap (λ (z : Float). abs (b ⊕ z)) (sym e)
 abbrev pub rewritten_mag : ℕ → Float → Model → Work → Float
 rewritten_mag r bp M w = rhs_mag (row_of w r) bp ⊕ sum_all r M w
 
-pub rewritten_reads : {P : Model → Type 0} {s : Shape} {f : Floats} {n : Numbers} {r : ℕ} {y z : Float} (bp : Float) → r < s.rows → Alive n r
+pub rewritten_reads : {P : Model → Type 0} {s : Context} {f : Floats} {n : Numbers} {r : ℕ} {y z : Float} (bp : Float) → r < s.rows → Alive n r
     → y ≡ mag_at f r bp → Reads P s f n z (sum_all r) → Reads P s f n (y ⊕ z) (rewritten_mag r bp)
 rewritten_reads {r = r} {y = y} bp p a ey t =
     record {
@@ -56,7 +56,7 @@ kept_by M w x re (some b) = kept_with M w x re b
 abbrev pub kept_after : ℕ → Float → Model → Work → Float
 kept_after r re M w = kept_by M w (row_of w r) re (row_of w r).binding
 
-module _ {s : Shape} {f : Floats} {n : Numbers} {r : ℕ} (p : r < s.rows) (a : Alive n r) (l : 0 < get_or n.binaries r 0) where
+module _ {s : Context} {f : Floats} {n : Numbers} {r : ℕ} (p : r < s.rows) (a : Alive n r) (l : 0 < get_or n.binaries r 0) where
   -- the binding that a state has
   bound_at : {M : Model} {o : List ℕ} {w : Work} → Call M s → Shows M f n o w → Bound M (parts_of f n) r (row_of w r).binding
   bound_at c h = bound_of (row_shown c h p a).binding (λ e. omega (arith, e, l))
@@ -106,7 +106,7 @@ settled_growth M w bp x = kept_of (settled_by M w bp x x.binding) ⊖ kept_of x.
 abbrev sums : Binding → Float → Float → Binding
 sums b re kept = record { binaries = b.binaries; written = b.written; rewritten = re; kept = kept }
 
-module _ {ss : List ℕ} {s : Shape} {f : Floats} {n : Numbers} {r : ℕ} (bp : Float) (p : r < s.rows) (a : Alive n r) (l : 0 < get_or n.binaries r 0)
+module _ {ss : List ℕ} {s : Context} {f : Floats} {n : Numbers} {r : ℕ} (bp : Float) (p : r < s.rows) (a : Alive n r) (l : 0 < get_or n.binaries r 0)
     {re kept : Float} (t : Reads (Spans ss) s f n re (rewritten_mag r bp)) (u : Reads (Spans ss) s f n kept (kept_after r re)) where
   module _ {M : Model} {o : List ℕ} {k : ℕ} {w : Work} (q : Spans ss M) (c : Call M s) (h : Shows M f n o w) (i : Inv M k w) where
     abbrev x : Row

@@ -3,7 +3,7 @@ use Rattle.std.specs.Prelude.{ℕ, ◌<◌, ◌≡◌, true, List}
 use Rattle.std.proofs.Common.{arith, ap, sym, ◌∙◌, subst, set-set}
 use Rattle.definition.specs.Model.{Model, Row}
 use Rattle.definition.specs.Work.{Work, with_row}
-use Rattle.space.specs.declared.Shape.{Shape}
+use Rattle.space.specs.declared.Context.{Context}
 use Rattle.space.specs.Store.{Floats, Numbers}
 use Rattle.view.specs.Call.{Call}
 use Rattle.view.specs.Shows.{Shows, parts_of, RowShown}
@@ -14,7 +14,7 @@ use Rattle.readers.specs.Reading.{row_of, Alive}
 use Rattle.readers.specs.RowAt.{alive_of, row_shown}
 
 -- row r become F of the state, where it is alive and has its invariant
-pub record Stays (P : Model → Type 0) (s : Shape) (f : Floats) (n : Numbers) (r : ℕ) (F : Model → Work → Row) : Type 0 where
+pub record Stays (P : Model → Type 0) (s : Context) (f : Floats) (n : Numbers) (r : ℕ) (F : Model → Work → Row) : Type 0 where
   pub alive : (M : Model) (o : List ℕ) (k : ℕ) (w : Work) → P M → Call M s → Shows M f n o w → Inv M k w → (F M w).alive ≡ true
   pub inv : (M : Model) (o : List ℕ) (k : ℕ) (w : Work) → P M → Call M s → Shows M f n o w → Inv M k w → RowInv M r (F M w)
 
@@ -33,7 +33,7 @@ row_again r x y w =
       counts = w.counts;
     }) (set-set w.rows r x y)
 
-module _ {P : Model → Type 0} {s : Shape} {f f₁ : Floats} {n n₁ : Numbers} {r : ℕ} {F : Model → Work → Row} (p : r < s.rows)
+module _ {P : Model → Type 0} {s : Context} {f f₁ : Floats} {n n₁ : Numbers} {r : ℕ} {F : Model → Work → Row} (p : r < s.rows)
     (A : Acts P s f n f₁ n₁ (λ M w. with_row r (F M w) w)) (S : Stays P s f n r F) where
   row_is : {M : Model} {k : ℕ} (w : Work) → Call M s → Inv M k w → row_of (with_row r (F M w) w) r ≡ F M w
   row_is {M} w c i = row_now r (F M w) w (omega (arith, p, c.rows, i.rowses))

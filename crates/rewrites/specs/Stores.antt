@@ -9,7 +9,7 @@ use Rattle.tolerances.specs.Tol.{term, at}
 use Rattle.definition.specs.Model.{Model, from, upto, Row, Binding, with_binding}
 use Rattle.definition.specs.Work.{Work, no_term}
 use Rattle.definition.specs.Tighten.{set_coeff}
-use Rattle.space.specs.declared.Shape.{Shape}
+use Rattle.space.specs.declared.Context.{Context}
 use Rattle.space.specs.Store.{Floats, Numbers, put_coeffs}
 use Rattle.view.specs.Call.{Call}
 use Rattle.view.specs.Shows.{Parts, parts_of, TermShown, BindingIs, is_bound, RowShown}
@@ -18,7 +18,7 @@ use Rattle.folds.specs.Apart.{Apart, untouched, within, outside, nnz_is, other_s
 use Rattle.folds.specs.Stands.{Stands}
 use Rattle.folds.specs.Folding.{binding_same}
 
-module _ {M : Model} {s : Shape} {r : ℕ} {f : Floats} {n : Numbers} {w : Work} {x : Row} (c : Call M s) (p : r < length M.rhs) (h : Stands M r f n w x) where
+module _ {M : Model} {s : Context} {r : ℕ} {f : Floats} {n : Numbers} {w : Work} {x : Row} (c : Call M s) (p : r < length M.rhs) (h : Stands M r f n w x) where
   -- ---- the coefficient of the term at place i, whose variable is v
   module _ {a i : ℕ} (v : ℕ) (y : Float) (ea : a ≡ from M r) (q : i < length x.terms) (ev : v ≡ (get_or x.terms i no_term).var) (lc : length f.coeffs ≡ s.terms) where
     place : a + i < upto M r
@@ -157,7 +157,7 @@ pub record Bindings (r a e : ℕ) (f : Floats) (n : Numbers) (wr re kp : List Fl
   pub binaries : (q : ℕ) → q ≢ r → get_or bs q 0 ≡ get_or n.binaries q 0
   pub binary : (i : ℕ) → (i < a) ⊎ (e ≤ i) → get_or bn i 0 ≡ get_or n.binary i 0
 
-module _ {M : Model} {s : Shape} {r : ℕ} {f : Floats} {n : Numbers} {w : Work} {x : Row} (c : Call M s) (p : r < length M.rhs) (h : Stands M r f n w x)
+module _ {M : Model} {s : Context} {r : ℕ} {f : Floats} {n : Numbers} {w : Work} {x : Row} (c : Call M s) (p : r < length M.rhs) (h : Stands M r f n w x)
     {wr re kp : List Float} {bs bn : List ℕ} (d : Bindings r (from M r) (upto M r) f n wr re kp bs bn) {b : Binding} (g : BindingIs M (parts_of (bind_f wr re kp f) (bind_n bs bn n)) r b) where
   abbrev bound : Parts
   bound = parts_of (bind_f wr re kp f) (bind_n bs bn n)

@@ -18,75 +18,75 @@ ghost use Rattle.rewrites.specs.After.{Placed};
 use crate::LiveTerm;
 use crate::bindings::rewrite_binding;
 use formulas::{Form, Rewrite};
-use space::{Coeffs, Hi, Lo, Shape};
+use space::{Coeffs, Context, Hi, Lo};
 
 // The coefficient of row r's live term at place i.
-fn set_coeff(starts: &[usize], w: &mut [f64], s: Shape, r: usize, i: usize, na: f64)
-    requires r_in_bounds { (r < length starts.now) × (get_or starts.now r 0 + i < s.terms) × (s.terms ≤ 65536) }
-    requires holds_f { HoldsF s w.old }
-    ensures { floats_of s w.new ≡ put_coeffs (get_or starts.now r 0 + i) na (floats_of s w.old) }
+fn set_coeff(starts: &[usize], floats: &mut [f64], cx: Context, r: usize, i: usize, na: f64)
+    requires r_in_bounds { (r < length starts.now) × (get_or starts.now r 0 + i < cx.terms) × (cx.terms ≤ 65536) }
+    requires holds_f { HoldsF cx floats.old }
+    ensures { floats_of cx floats.new ≡ put_coeffs (get_or starts.now r 0 + i) na (floats_of cx floats.old) }
 {
-    space::put::<Coeffs>(w, s, starts[r] + i, na);
+    space::put::<Coeffs>(floats, cx, starts[r] + i, na);
 }
 
-// = rebound_row, of a rewrite of t to the coefficient na that moves the bound to bp. starts, w, m, s and r are every step's (space
+// = rebound_row, of a rewrite of t to the coefficient na that moves the bound to bp. starts, floats, numbers, cx and r are every step's (space
 // says why they stay apart). na and bp are two numbers of a `Rewrite` whose bound is known to move, which its type does not say.
 fn rebound(
     starts: &[usize],
-    w: &mut [f64],
-    m: &mut [usize],
-    s: Shape,
+    floats: &mut [f64],
+    numbers: &mut [usize],
+    cx: Context,
     r: usize,
     form: Form,
     t: LiveTerm,
     na: f64,
     bp: f64,
 )
-    requires holds_f { HoldsF s w.old × HoldsN s m.old × Placed starts.now s (numbers_of s m.old) r t.place t.var × (eq na 0f ≡ false) }
-    requires ready { Ready (Spans starts.now) s (floats_of s w.old) (numbers_of s m.old) }
-    ensures { Acts (Spans starts.now) s (floats_of s w.old) (numbers_of s m.old) (floats_of s w.new)
-        (numbers_of s m.new) (λ M u. with_row r (rebound_row M (form_is form) u (row_of u r) t.place t.var t.coeff na bp) u) }
+    requires holds_f { HoldsF cx floats.old × HoldsN cx numbers.old × Placed starts.now cx (numbers_of cx numbers.old) r t.place t.var × (eq na 0f ≡ false) }
+    requires ready { Ready (Spans starts.now) cx (floats_of cx floats.old) (numbers_of cx numbers.old) }
+    ensures { Acts (Spans starts.now) cx (floats_of cx floats.old) (numbers_of cx numbers.old) (floats_of cx floats.new)
+        (numbers_of cx numbers.new) (λ M u. with_row r (rebound_row M (form_is form) u (row_of u r) t.place t.var t.coeff na bp) u) }
 {
-    set_coeff(starts, w, s, r, t.place, na);
+    set_coeff(starts, floats, cx, r, t.place, na);
     match form {
         Form::Le => {
-            let b = space::get::<Hi>(w, s, r);
-            let grown = rewrite_binding(starts, w, m, s, r, t, b, bp);
-            space::put::<Hi>(w, s, r, bp + grown);
+            let b = space::get::<Hi>(floats, cx, r);
+            let grown = rewrite_binding(starts, floats, numbers, cx, r, t, b, bp);
+            space::put::<Hi>(floats, cx, r, bp + grown);
         }
         Form::Ge => {
-            let b = space::get::<Lo>(w, s, r);
-            let grown = rewrite_binding(starts, w, m, s, r, t, b, bp);
-            space::put::<Lo>(w, s, r, bp - grown);
+            let b = space::get::<Lo>(floats, cx, r);
+            let grown = rewrite_binding(starts, floats, numbers, cx, r, t, b, bp);
+            space::put::<Lo>(floats, cx, r, bp - grown);
         }
     }
 }
 
-// = row_after, of the live term t and its rewrite z, if it is rewritten. starts, w, m, s and r are every step's (space says why they
+// = row_after, of the live term t and its rewrite z, if it is rewritten. starts, floats, numbers, cx and r are every step's (space says why they
 // stay apart); form is the row's.
 pub fn row_after(
     starts: &[usize],
-    w: &mut [f64],
-    m: &mut [usize],
-    s: Shape,
+    floats: &mut [f64],
+    numbers: &mut [usize],
+    cx: Context,
     r: usize,
     form: Option<Form>,
     t: LiveTerm,
     z: Option<Rewrite>,
 )
-    requires r_lt_rows { (r < s.rows) × HoldsF s w.old × HoldsN s m.old × Alive (numbers_of s m.old) r × (t.place < get_or (numbers_of s m.old).len r 0) × Nonzero (maybe_rewrite z) }
-    requires v_value { (t.var ≡ get_or (numbers_of s m.old).vars (get_or starts.now r 0 + t.place) 0) × (t.coeff ≡ get_or (floats_of s w.old).coeffs (get_or starts.now r 0 + t.place) nan) }
-    requires ready { Ready (Spans starts.now) s (floats_of s w.old) (numbers_of s m.old) }
-    ensures { Acts (Spans starts.now) s (floats_of s w.old) (numbers_of s m.old) (floats_of s w.new)
-        (numbers_of s m.new) (λ M u. with_row r (row_after M (maybe_form form) u (row_of u r) t.place (term t.var t.coeff) (maybe_rewrite z)) u) }
+    requires r_lt_rows { (r < cx.rows) × HoldsF cx floats.old × HoldsN cx numbers.old × Alive (numbers_of cx numbers.old) r × (t.place < get_or (numbers_of cx numbers.old).len r 0) × Nonzero (maybe_rewrite z) }
+    requires v_value { (t.var ≡ get_or (numbers_of cx numbers.old).vars (get_or starts.now r 0 + t.place) 0) × (t.coeff ≡ get_or (floats_of cx floats.old).coeffs (get_or starts.now r 0 + t.place) nan) }
+    requires ready { Ready (Spans starts.now) cx (floats_of cx floats.old) (numbers_of cx numbers.old) }
+    ensures { Acts (Spans starts.now) cx (floats_of cx floats.old) (numbers_of cx numbers.old) (floats_of cx floats.new)
+        (numbers_of cx numbers.new) (λ M u. with_row r (row_after M (maybe_form form) u (row_of u r) t.place (term t.var t.coeff) (maybe_rewrite z)) u) }
 {
     match z {
         None => {}
         Some(y) => match y.bound {
-            None => set_coeff(starts, w, s, r, t.place, y.coeff),
+            None => set_coeff(starts, floats, cx, r, t.place, y.coeff),
             Some(b) => match form {
                 None => {}
-                Some(f) => rebound(starts, w, m, s, r, f, t, y.coeff, b.to),
+                Some(f) => rebound(starts, floats, numbers, cx, r, f, t, y.coeff, b.to),
             },
         },
     }

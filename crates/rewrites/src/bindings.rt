@@ -12,53 +12,74 @@ ghost use Rattle.rewrites.specs.Adding.{with_binary, Room};
 ghost use Rattle.rewrites.specs.Rebinding.{LiveAt, rebound, rebound_growth};
 
 use crate::LiveTerm;
-use space::{Binaries, Binary, Kept, Rewritten, Shape, Shift, Written};
+use space::{Binaries, Binary, Context, Kept, Rewritten, Shift, Written};
 
 // = rhs_mag, of row r. formulas' is a method of the limits, for which the row's other three floats would be read.
-fn rhs_mag(w: &[f64], s: Shape, r: usize, b: f64) -> f64
-    requires { (r < s.rows) × HoldsF s w.now }
-    ensures { result ≡ mag_at (floats_of s w.now) r b }
+fn rhs_mag(floats: &[f64], cx: Context, r: usize, b: f64) -> f64
+    requires { (r < cx.rows) × HoldsF cx floats.now }
+    ensures { result ≡ mag_at (floats_of cx floats.now) r b }
 {
-    floats::absolute(b + space::get::<Shift>(w, s, r))
+    floats::absolute(b + space::get::<Shift>(floats, cx, r))
 }
 
 // The magnitude of the binding branch as rewritten, with the bound bp.
 #[tactic(auto, using(crate::specs::Settling::rewritten_reads))]
-fn rewritten_mag(starts: &[usize], w: &[f64], m: &[usize], s: Shape, r: usize, bp: f64) -> f64
-    requires r_lt_rows { (r < s.rows) × HoldsF s w.now × HoldsN s m.now × Alive (numbers_of s m.now) r }
-    requires ready { Ready (Spans starts.now) s (floats_of s w.now) (numbers_of s m.now) }
-    ensures { Reads (Spans starts.now) s (floats_of s w.now) (numbers_of s m.now) result (rewritten_mag r bp) }
+fn rewritten_mag(
+    starts: &[usize],
+    floats: &[f64],
+    numbers: &[usize],
+    cx: Context,
+    r: usize,
+    bp: f64,
+) -> f64
+    requires r_lt_rows { (r < cx.rows) × HoldsF cx floats.now × HoldsN cx numbers.now × Alive (numbers_of cx numbers.now) r }
+    requires ready { Ready (Spans starts.now) cx (floats_of cx floats.now) (numbers_of cx numbers.now) }
+    ensures { Reads (Spans starts.now) cx (floats_of cx floats.now) (numbers_of cx numbers.now) result (rewritten_mag r bp) }
 {
-    rhs_mag(w, s, r, bp) + coeffs::sum_coeffs(starts, w, m, s, r)
+    rhs_mag(floats, cx, r, bp) + coeffs::sum_coeffs(starts, floats, numbers, cx, r)
 }
 
 // What the binding keeps from now on, its magnitude as rewritten being re.
-fn kept_after(starts: &[usize], w: &[f64], m: &[usize], s: Shape, r: usize, re: f64) -> f64
-    requires r_lt_rows { (r < s.rows) × HoldsF s w.now × HoldsN s m.now × Alive (numbers_of s m.now) r × (0 < get_or (numbers_of s m.now).binaries r 0) }
-    requires ready { Ready (Spans starts.now) s (floats_of s w.now) (numbers_of s m.now) }
-    ensures { Reads (Spans starts.now) s (floats_of s w.now) (numbers_of s m.now) result (kept_after r re) }
+fn kept_after(
+    starts: &[usize],
+    floats: &[f64],
+    numbers: &[usize],
+    cx: Context,
+    r: usize,
+    re: f64,
+) -> f64
+    requires r_lt_rows { (r < cx.rows) × HoldsF cx floats.now × HoldsN cx numbers.now × Alive (numbers_of cx numbers.now) r × (0 < get_or (numbers_of cx numbers.now).binaries r 0) }
+    requires ready { Ready (Spans starts.now) cx (floats_of cx floats.now) (numbers_of cx numbers.now) }
+    ensures { Reads (Spans starts.now) cx (floats_of cx floats.now) (numbers_of cx numbers.now) result (kept_after r re) }
 {
-    let fixed = folds::fixed_besides(starts, w, m, s, r);
-    let written = space::get::<Written>(w, s, r);
-    let old = space::get::<Kept>(w, s, r);
-    let room = formulas::rewrite_room(s.feas, written, re, fixed);
+    let fixed = folds::fixed_besides(starts, floats, numbers, cx, r);
+    let written = space::get::<Written>(floats, cx, r);
+    let old = space::get::<Kept>(floats, cx, r);
+    let room = formulas::rewrite_room(cx.feas, written, re, fixed);
     floats::larger(room, old)
 }
 
 // The rest of rewrite_binding, of a row whose binaries and magnitude as written are right: what the
 // binding keeps more.
-fn store_binding(starts: &[usize], w: &mut [f64], m: &[usize], s: Shape, r: usize, bp: f64) -> f64
-    requires r_lt_rows { (r < s.rows) × HoldsF s w.old × HoldsN s m.now × Alive (numbers_of s m.now) r × (0 < get_or (numbers_of s m.now).binaries r 0) }
-    requires ready { Ready (Spans starts.now) s (floats_of s w.old) (numbers_of s m.now) }
-    ensures acts { Acts (Spans starts.now) s (floats_of s w.old) (numbers_of s m.now) (floats_of s w.new)
-        (numbers_of s m.now) (λ M u. with_row r (settled M u bp (row_of u r)) u) }
-    ensures reads { Reads (Spans starts.now) s (floats_of s w.old) (numbers_of s m.now) result (λ M u. settled_growth M u bp (row_of u r)) }
+fn store_binding(
+    starts: &[usize],
+    floats: &mut [f64],
+    numbers: &[usize],
+    cx: Context,
+    r: usize,
+    bp: f64,
+) -> f64
+    requires r_lt_rows { (r < cx.rows) × HoldsF cx floats.old × HoldsN cx numbers.now × Alive (numbers_of cx numbers.now) r × (0 < get_or (numbers_of cx numbers.now).binaries r 0) }
+    requires ready { Ready (Spans starts.now) cx (floats_of cx floats.old) (numbers_of cx numbers.now) }
+    ensures acts { Acts (Spans starts.now) cx (floats_of cx floats.old) (numbers_of cx numbers.now) (floats_of cx floats.new)
+        (numbers_of cx numbers.now) (λ M u. with_row r (settled M u bp (row_of u r)) u) }
+    ensures reads { Reads (Spans starts.now) cx (floats_of cx floats.old) (numbers_of cx numbers.now) result (λ M u. settled_growth M u bp (row_of u r)) }
 {
-    let re = rewritten_mag(starts, w, m, s, r, bp);
-    let kept = kept_after(starts, w, m, s, r, re);
-    let old = space::get::<Kept>(w, s, r);
-    space::put::<Rewritten>(w, s, r, re);
-    space::put::<Kept>(w, s, r, kept);
+    let re = rewritten_mag(starts, floats, numbers, cx, r, bp);
+    let kept = kept_after(starts, floats, numbers, cx, r, re);
+    let old = space::get::<Kept>(floats, cx, r);
+    space::put::<Rewritten>(floats, cx, r, re);
+    space::put::<Kept>(floats, cx, r, kept);
     kept - old
 }
 
@@ -66,55 +87,55 @@ fn store_binding(starts: &[usize], w: &mut [f64], m: &[usize], s: Shape, r: usiz
 // row's bound b.
 fn add_binary(
     starts: &[usize],
-    w: &mut [f64],
-    m: &mut [usize],
-    s: Shape,
+    floats: &mut [f64],
+    numbers: &mut [usize],
+    cx: Context,
     r: usize,
     t: LiveTerm,
     b: f64,
 )
-    requires r_lt_rows { (r < s.rows) × HoldsF s w.old × HoldsN s m.old × Alive (numbers_of s m.old) r }
-    requires room { Room starts.now s (numbers_of s m.old) r }
-    ensures { Acts (Spans starts.now) s (floats_of s w.old) (numbers_of s m.old) (floats_of s w.new)
-        (numbers_of s m.new) (λ M u. with_row r (with_binary t.var t.coeff b (get_or (floats_of s w.old).rewritten r nan) (row_of u r)) u) }
+    requires r_lt_rows { (r < cx.rows) × HoldsF cx floats.old × HoldsN cx numbers.old × Alive (numbers_of cx numbers.old) r }
+    requires room { Room starts.now cx (numbers_of cx numbers.old) r }
+    ensures { Acts (Spans starts.now) cx (floats_of cx floats.old) (numbers_of cx numbers.old) (floats_of cx floats.new)
+        (numbers_of cx numbers.new) (λ M u. with_row r (with_binary t.var t.coeff b (get_or (floats_of cx floats.old).rewritten r nan) (row_of u r)) u) }
 {
-    let k = space::get::<Binaries>(m, s, r);
+    let k = space::get::<Binaries>(numbers, cx, r);
     let i = starts[r];
     let size = floats::absolute(t.coeff);
-    space::put::<Binary>(m, s, i + k, t.var);
-    space::put::<Binaries>(m, s, r, k + 1);
+    space::put::<Binary>(numbers, cx, i + k, t.var);
+    space::put::<Binaries>(numbers, cx, r, k + 1);
     if k == 0 {
-        let mag = rhs_mag(w, s, r, b);
-        space::put::<Written>(w, s, r, mag + size);
-        space::put::<Kept>(w, s, r, 0.0);
+        let mag = rhs_mag(floats, cx, r, b);
+        space::put::<Written>(floats, cx, r, mag + size);
+        space::put::<Kept>(floats, cx, r, 0.0);
     } else {
-        let written = space::get::<Written>(w, s, r);
-        space::put::<Written>(w, s, r, written + size);
+        let written = space::get::<Written>(floats, cx, r);
+        space::put::<Written>(floats, cx, r, written + size);
     }
 }
 
 // = rewrite_binding, of a row that holds t's new coefficient already: b is the row's bound and bp the
-// new one. The relaxation to add to bp. starts, w, m, s and r are every step's (space says why they stay apart); b is read by one
+// new one. The relaxation to add to bp. starts, floats, numbers, cx and r are every step's (space says why they stay apart); b is read by one
 // callee and bp by the other.
 pub(crate) fn rewrite_binding(
     starts: &[usize],
-    w: &mut [f64],
-    m: &mut [usize],
-    s: Shape,
+    floats: &mut [f64],
+    numbers: &mut [usize],
+    cx: Context,
     r: usize,
     t: LiveTerm,
     b: f64,
     bp: f64,
 ) -> f64
-    requires r_lt_rows { (r < s.rows) × HoldsF s w.old × HoldsN s m.old × Alive (numbers_of s m.old) r × LiveAt starts.now (floats_of s w.old) (numbers_of s m.old) r t.var }
-    requires ready { Ready (Spans starts.now) s (floats_of s w.old) (numbers_of s m.old) }
-    ensures acts { Acts (Spans starts.now) s (floats_of s w.old) (numbers_of s m.old) (floats_of s w.new)
-        (numbers_of s m.new) (λ M u. with_row r (rebound r t.var t.coeff b bp M u) u) }
-    ensures reads { Reads (Spans starts.now) s (floats_of s w.old) (numbers_of s m.old) result (rebound_growth r t.var t.coeff b bp) }
+    requires r_lt_rows { (r < cx.rows) × HoldsF cx floats.old × HoldsN cx numbers.old × Alive (numbers_of cx numbers.old) r × LiveAt starts.now (floats_of cx floats.old) (numbers_of cx numbers.old) r t.var }
+    requires ready { Ready (Spans starts.now) cx (floats_of cx floats.old) (numbers_of cx numbers.old) }
+    ensures acts { Acts (Spans starts.now) cx (floats_of cx floats.old) (numbers_of cx numbers.old) (floats_of cx floats.new)
+        (numbers_of cx numbers.new) (λ M u. with_row r (rebound r t.var t.coeff b bp M u) u) }
+    ensures reads { Reads (Spans starts.now) cx (floats_of cx floats.old) (numbers_of cx numbers.old) result (rebound_growth r t.var t.coeff b bp) }
 {
-    if folds::has_binary(starts, m, s, r, t.var) {
-        return store_binding(starts, w, m, s, r, bp);
+    if folds::has_binary(starts, numbers, cx, r, t.var) {
+        return store_binding(starts, floats, numbers, cx, r, bp);
     }
-    add_binary(starts, w, m, s, r, t, b);
-    store_binding(starts, w, m, s, r, bp)
+    add_binary(starts, floats, numbers, cx, r, t, b);
+    store_binding(starts, floats, numbers, cx, r, bp)
 }

@@ -6,7 +6,7 @@ use Rattle.definition.specs.Work.{Work}
 use Rattle.definition.specs.Tighten.{tighten_binary_coeffs}
 use Rattle.definition.specs.Dual.{dual_fix}
 use Rattle.definition.specs.Rounds.{dual_step, after_waves}
-use Rattle.space.specs.declared.Shape.{Shape}
+use Rattle.space.specs.declared.Context.{Context}
 use Rattle.space.specs.Store.{Floats, Numbers}
 use Rattle.view.specs.declared.Lists.{Lists}
 use Rattle.view.specs.Call.{Call}
@@ -36,7 +36,7 @@ module _ {obj : List Float} {lists : Lists} {mode : ℕ} (M : Model) (p : Runnin
   running_tightening = record { domain = p.known.domain; written = p.known.written }
 
   pub running_dual : Dual obj lists M
-  running_dual = record { obj = p.obj; domain = p.known.domain; starts = p.known.written.starts; adj = p.known.adj }
+  running_dual = record { obj = p.obj; domain = p.known.domain; starts = p.known.written.starts; adjacency = p.known.adjacency }
 
 -- ---- the definition, by the mode
 after_lp : (M : Model) (w : Work) → is_mip M ≡ false → after_waves M w ≡ (w, false)
@@ -68,11 +68,11 @@ or_false true = refl
 or_false false = refl
 
 -- ---- the invariant is kept
-inv_dual : {M : Model} {s : Shape} {k : ℕ} (w : Work) → Call M s → Inv M k w → Inv M k (dual_step M w).0
+inv_dual : {M : Model} {s : Context} {k : ℕ} (w : Work) → Call M s → Inv M k w → Inv M k (dual_step M w).0
 unfolding dual_step
 inv_dual {M} {s} {k} w c i = either (λ (y : Work × Bool). Inv M k y.0) _ (λ e. (dual_keeps {P = Any} {s = s}).keeps M k w tt c i) (λ e. i)
 
-pub after_keeps : {P : Model → Type 0} {s : Shape} → KeepsBool P s (λ M. after_waves M)
+pub after_keeps : {P : Model → Type 0} {s : Context} → KeepsBool P s (λ M. after_waves M)
 unfolding after_waves
 after_keeps {P} {s} =
     record {
@@ -81,7 +81,7 @@ after_keeps {P} {s} =
     }
 
 -- ---- after_waves
-module _ {obj : List Float} {lists : Lists} {mode : ℕ} {s : Shape} {f : Floats} {n : Numbers} where
+module _ {obj : List Float} {lists : Lists} {mode : ℕ} {s : Context} {f : Floats} {n : Numbers} where
   pub after_none : mode ≡ 0 → ActsBool (Running obj lists mode) s f n f n false (λ M. after_waves M)
   after_none z =
       record {

@@ -8,7 +8,7 @@ use Rattle.definition.specs.Model.{Model}
 use Rattle.definition.specs.Work.{Work, Step, next, ◌>>=◌}
 use Rattle.definition.specs.Wave.{waves}
 use Rattle.definition.specs.Rounds.{after_waves, rounds}
-use Rattle.space.specs.declared.Shape.{Shape}
+use Rattle.space.specs.declared.Context.{Context}
 use Rattle.space.specs.Store.{Floats, Numbers}
 use Rattle.view.specs.Call.{Call}
 use Rattle.view.specs.Shows.{Shows, StepShown, Outcome}
@@ -25,7 +25,7 @@ use Rattle.wave.specs.Again.{left_of, waves_keeps}
 use Rattle.rounds.specs.After.{after_keeps}
 
 -- a contract that asks for P holds where Q, which says more, is known
-pub waves_under : {P Q : Model → Type 0} {s : Shape} {f f' : Floats} {n n' : Numbers} {z : Outcome} {F : Model → Work → Step} → ((M : Model) → Q M → P M)
+pub waves_under : {P Q : Model → Type 0} {s : Context} {f f' : Floats} {n n' : Numbers} {z : Outcome} {F : Model → Work → Step} → ((M : Model) → Q M → P M)
     → Waves P s f n f' n' z F → Waves Q s f n f' n' z F
 waves_under q t = record { does = λ M o k w p c h i. t.does M o k w (q M p) c h i }
 
@@ -56,19 +56,19 @@ unfolding afterwards
 done_is M j w e = no _ _ e
 
 -- ---- the invariant is kept
-inv_after : {M : Model} {s : Shape} {k : ℕ} (j : ℕ) (w : Work) → Call M s → Inv M k w → ((u : Work) → Inv M k u → InvStep M k (rounds M j u)) → InvStep M k (afterwards M j w)
+inv_after : {M : Model} {s : Context} {k : ℕ} (j : ℕ) (w : Work) → Call M s → Inv M k w → ((u : Work) → Inv M k u → InvStep M k (rounds M j u)) → InvStep M k (afterwards M j w)
 unfolding afterwards
 inv_after {M} {s} {k} j w c i t =
     let y = (after_keeps {P = Any} {s = s}).keeps M k w tt c i in
     either (InvStep M k) _ (λ e. t (after_waves M w).0 y) (λ e. goes y)
 
-inv_rounds : {M : Model} {s : Shape} {k : ℕ} (j : ℕ) (w : Work) → Call M s → Inv M k w → InvStep M k (rounds M j w)
+inv_rounds : {M : Model} {s : Context} {k : ℕ} (j : ℕ) (w : Work) → Call M s → Inv M k w → InvStep M k (rounds M j w)
 inv_rounds {M} {s} {k} zero w c i = subst (InvStep M k) (sym (rounds_none M w)) (goes i)
 inv_rounds {M} {s} {k} (suc j) w c i =
     subst (InvStep M k) (sym (rounds_one M j w))
     (inv_then (λ w1. afterwards M j w1) ((waves_keeps {P = Any} {s = s}).keeps M k w tt c i) (λ u x. inv_after j u c x (λ v y. inv_rounds j v c y)))
 
-pub rounds_keeps : {P : Model → Type 0} {s : Shape} → KeepsStep P s rounds_of
+pub rounds_keeps : {P : Model → Type 0} {s : Context} → KeepsStep P s rounds_of
 rounds_keeps = record { keeps = λ M k w p c i. inv_rounds M.params.max_rounds w c i }
 
 -- ---- j rounds were run, and each changed something
@@ -76,10 +76,10 @@ pub record Rounded (M : Model) (f : Floats) (n : Numbers) (k : ℕ) (w : Work) (
   pub other : List ℕ
   pub on : Onward M f n other k (λ u. rounds M (cap - j) u ≡ rounds_of M w)
 
-pub record Rounding (P : Model → Type 0) (s : Shape) (f₀ : Floats) (n₀ : Numbers) (f : Floats) (n : Numbers) (cap j : ℕ) : Type 0 where
+pub record Rounding (P : Model → Type 0) (s : Context) (f₀ : Floats) (n₀ : Numbers) (f : Floats) (n : Numbers) (cap j : ℕ) : Type 0 where
   pub each : (M : Model) (o : List ℕ) (k : ℕ) (w : Work) → P M → Call M s → Shows M f₀ n₀ o w → Inv M k w → Rounded M f n k w cap j
 
-pub rounding_start : {P : Model → Type 0} {s : Shape} {f : Floats} {n : Numbers} {cap : ℕ} → cap ≡ params.max_rounds → Rounding P s f n f n cap 0
+pub rounding_start : {P : Model → Type 0} {s : Context} {f : Floats} {n : Numbers} {cap : ℕ} → cap ≡ params.max_rounds → Rounding P s f n f n cap 0
 rounding_start {cap = cap} ec =
     record {
       each = λ M o k w x c h i.
@@ -97,7 +97,7 @@ record OneRound (M : Model) (f : Floats) (n : Numbers) (k : ℕ) (w : Work) (lef
   changed : (after_waves M waved).1 ≡ b
   rest : rounds_of M w ≡ afterwards M left waved
 
-module _ {P : Model → Type 0} {s : Shape} {f₀ f : Floats} {n₀ n : Numbers} {cap j : ℕ} where
+module _ {P : Model → Type 0} {s : Context} {f₀ f : Floats} {n₀ n : Numbers} {cap j : ℕ} where
   module _ (R : Ready P s f₀ n₀) (T : Rounding P s f₀ n₀ f n cap j) where
     here : Rounded R.model f n R.left R.work cap j
     here = T.each R.model R.other R.left R.work R.known R.call R.shows R.inv

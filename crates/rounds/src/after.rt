@@ -7,7 +7,7 @@ ghost use Rattle.view.specs.Acts.{Ready};
 ghost use Rattle.view.specs.Changes.{ActsBool};
 ghost use Rattle.rounds.specs.After.{Running};
 
-use space::Shape;
+use space::Context;
 use view::Lists;
 
 // = after_waves: whether one of the two changed something. The mode is the byte that a caller in C hands in,
@@ -15,22 +15,22 @@ use view::Lists;
 pub(crate) fn after_waves(
     obj: &[f64],
     lists: Lists,
-    w: &mut [f64],
-    m: &mut [usize],
-    s: Shape,
+    floats: &mut [f64],
+    numbers: &mut [usize],
+    cx: Context,
     mode: u8,
 ) -> bool
-    requires holds_f { HoldsF s w.old × HoldsN s m.old }
-    requires ready { Ready (Running obj.now lists mode) s (floats_of s w.old) (numbers_of s m.old) }
-    ensures { ActsBool (Running obj.now lists.entry mode) s (floats_of s w.old) (numbers_of s m.old)
-        (floats_of s w.new) (numbers_of s m.new) result (λ M. after_waves M) }
+    requires holds_f { HoldsF cx floats.old × HoldsN cx numbers.old }
+    requires ready { Ready (Running obj.now lists mode) cx (floats_of cx floats.old) (numbers_of cx numbers.old) }
+    ensures { ActsBool (Running obj.now lists.entry mode) cx (floats_of cx floats.old) (numbers_of cx numbers.old)
+        (floats_of cx floats.new) (numbers_of cx numbers.new) result (λ M. after_waves M) }
 {
     if mode == 0 {
         return false;
     }
-    let tightened = tighten::tighten_binary_coeffs(lists, w, m, s);
+    let tightened = tighten::tighten_binary_coeffs(lists, floats, numbers, cx);
     if mode == 2 {
-        let fixed = dual::dual_fix(obj, lists, w, m, s);
+        let fixed = dual::dual_fix(obj, lists, floats, numbers, cx);
         return tightened | fixed;
     }
     tightened

@@ -8,27 +8,27 @@ ghost use Rattle.rounds.specs.After.{Running};
 
 use crate::after::after_waves;
 use definition::Infeasible;
-use space::Shape;
+use space::Context;
 use view::Lists;
 
 // = rounds, as many as there may be. The mode is the byte that a caller in C hands in (see after_waves).
 pub fn rounds(
     obj: &[f64],
     lists: Lists,
-    w: &mut [f64],
-    m: &mut [usize],
-    s: Shape,
+    floats: &mut [f64],
+    numbers: &mut [usize],
+    cx: Context,
     mode: u8,
 ) -> Result<(), Infeasible>
-    requires holds_f { HoldsF s w.old × HoldsN s m.old }
-    requires ready { Ready (Running obj.now lists mode) s (floats_of s w.old) (numbers_of s m.old) }
-    ensures { Waves (Running obj.now lists.entry mode) s (floats_of s w.old) (numbers_of s m.old) (floats_of s w.new)
-        (numbers_of s m.new) result (λ M u. definition.rounds M M.params.max_rounds u) }
+    requires holds_f { HoldsF cx floats.old × HoldsN cx numbers.old }
+    requires ready { Ready (Running obj.now lists mode) cx (floats_of cx floats.old) (numbers_of cx numbers.old) }
+    ensures { Waves (Running obj.now lists.entry mode) cx (floats_of cx floats.old) (numbers_of cx numbers.old) (floats_of cx floats.new)
+        (numbers_of cx numbers.new) result (λ M u. definition.rounds M M.params.max_rounds u) }
 {
     let cap = formulas::max_rounds();
     for n in 0..cap {
-        wave::waves(lists, w, m, s)?;
-        if !after_waves(obj, lists, w, m, s, mode) {
+        wave::waves(lists, floats, numbers, cx)?;
+        if !after_waves(obj, lists, floats, numbers, cx, mode) {
             return Ok(());
         }
     }

@@ -3,7 +3,7 @@ use Rattle.std.specs.Prelude.{ℕ, ◌+◌, ◌%◌, ◌^◌, ◌<◌, ◌≡◌
 use Rattle.std.proofs.Common.{arith, ap, ◌∙◌, get_or-set_same, get_or-set_other}
 use Rattle.definition.specs.Model.{Model, Row, with_alive}
 use Rattle.definition.specs.Work.{Work, drop_row}
-use Rattle.space.specs.declared.Shape.{Shape}
+use Rattle.space.specs.declared.Context.{Context}
 use Rattle.space.specs.Store.{Floats, Numbers, put_alive, put_dropped}
 use Rattle.view.specs.Shows.{is_one}
 use Rattle.view.specs.Inv.{Inv}
@@ -35,7 +35,7 @@ one_dropped {n = n} r x l e =
       wave = refl;
     })
 
-pub drop_acts : {s : Shape} {n n₁ n₂ : Numbers} (r : ℕ) → r < s.rows → length n.alive ≡ s.rows → length n.dropped ≡ 1 → n₁ ≡ put_alive r 0 n
+pub drop_acts : {s : Context} {n n₁ n₂ : Numbers} (r : ℕ) → r < s.rows → length n.alive ≡ s.rows → length n.dropped ≡ 1 → n₁ ≡ put_alive r 0 n
     → n₂ ≡ put_dropped 0 ((get_or n₁.dropped 0 0 + 1) % 2 ^ 64) n₁
     → ActsN Any s n n₂ (λ M w. drop_row r (row_of w r) w)
 unfolding drop_row

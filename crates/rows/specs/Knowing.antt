@@ -2,7 +2,7 @@
 use Rattle.std.specs.Prelude.{ℕ, ◌+◌, ◌-◌, ◌≤◌, ◌<◌, ◌≡◌, List, length, get_or}
 use Rattle.std.proofs.Common.{arith, ap, sym, ◌∙◌}
 use Rattle.definition.specs.Model.{Model, from, upto, nnz}
-use Rattle.space.specs.declared.Shape.{Shape}
+use Rattle.space.specs.declared.Context.{Context}
 use Rattle.space.specs.Store.{Floats, Numbers}
 use Rattle.formulas.specs.declared.Limits.{Limits}
 use Rattle.formulas.specs.Bare.{Of}
@@ -22,13 +22,13 @@ pub record Looks (x : Lists) (M : Model) : Type 0 where
 -- the spans and the rows of each variable
 pub record Marks (x : Lists) (M : Model) : Type 0 where
   pub starts : M.starts ≡ x.rows.starts.now
-  pub adj : Adjacency M x.adj.now
+  pub adjacency : Adjacency M x.adjacency.now
 
 -- all three
 pub record Moves (x : Lists) (M : Model) : Type 0 where
   pub domain : M.domain ≡ x.domain.now
   pub starts : M.starts ≡ x.rows.starts.now
-  pub adj : Adjacency M x.adj.now
+  pub adjacency : Adjacency M x.adjacency.now
 
 module _ {x : Lists} (M : Model) (k : Looks x M) where
   pub looks_spans : Spans x.rows.starts.now M
@@ -41,8 +41,8 @@ module _ {x : Lists} (M : Model) (k : Marks x M) where
   pub marks_spans : Spans x.rows.starts.now M
   marks_spans = record { starts = k.starts }
 
-  pub marks_adj : Adj x.adj.now M
-  marks_adj = k.adj
+  pub marks_adj : Adj x.adjacency.now M
+  marks_adj = k.adjacency
 
 module _ {x : Lists} (M : Model) (k : Moves x M) where
   pub moves_spans : Spans x.rows.starts.now M
@@ -55,20 +55,20 @@ module _ {x : Lists} (M : Model) (k : Moves x M) where
   moves_looks = record { domain = k.domain; starts = k.starts }
 
   pub moves_marks : Marks x M
-  moves_marks = record { starts = k.starts; adj = k.adj }
+  moves_marks = record { starts = k.starts; adjacency = k.adjacency }
 
   pub moves_bounding : Bounding x M
-  moves_bounding = record { domain = k.domain; adj = k.adj }
+  moves_bounding = record { domain = k.domain; adjacency = k.adjacency }
 
 pub known_moves : {x : Lists} (M : Model) → Known x M → Moves x M
-known_moves M k = record { domain = k.domain; starts = k.written.starts; adj = k.adj }
+known_moves M k = record { domain = k.domain; starts = k.written.starts; adjacency = k.adjacency }
 
 -- ---- a row's span
 pub record SpanAt (ss : List ℕ) (r : ℕ) : Type 0 where
   pub long : r + 1 < length ss
   pub rise : get_or ss r 0 ≤ get_or ss (r + 1) 0
 
-pub span_at : {P : Model → Type 0} {s : Shape} {f : Floats} {n : Numbers} {ss : List ℕ} {r : ℕ} → Ready P s f n → ((M : Model) → P M → Spans ss M) → r < s.rows → SpanAt ss r
+pub span_at : {P : Model → Type 0} {s : Context} {f : Floats} {n : Numbers} {ss : List ℕ} {r : ℕ} → Ready P s f n → ((M : Model) → P M → Spans ss M) → r < s.rows → SpanAt ss r
 unfolding from upto
 span_at {ss = ss} {r = r} R q p =
     let M = R.model in
@@ -80,12 +80,12 @@ span_at {ss = ss} {r = r} R q p =
     record { long = omega (arith, c.starts, ap length e, l); rise = omega (arith, a, b, c.rise r l) }
 
 -- x is of row r, as the floats and the rows' starts have it
-pub record LimitsOf (ss : List ℕ) (s : Shape) (f : Floats) (r : ℕ) (x : Limits) : Type 0 where
+pub record LimitsOf (ss : List ℕ) (s : Context) (f : Floats) (r : ℕ) (x : Limits) : Type 0 where
   pub read : ReadsLimits s f r x.terms x
   pub written : x.terms ≡ get_or ss (r + 1) 0 - get_or ss r 0
 
 -- the model's tolerance and the row's count of terms, as the formulas have them
-pub of_call : {M : Model} {s : Shape} {ss : List ℕ} {r z : ℕ} → Call M s → Spans ss M → z ≡ get_or ss (r + 1) 0 - get_or ss r 0 → Of M r s.feas z
+pub of_call : {M : Model} {s : Context} {ss : List ℕ} {r z : ℕ} → Call M s → Spans ss M → z ≡ get_or ss (r + 1) 0 - get_or ss r 0 → Of M r s.feas z
 unfolding nnz from upto
 of_call {r = r} c e g =
     record {
@@ -94,7 +94,7 @@ of_call {r = r} c e g =
       params = c.params;
     }
 
-pub of_limits : {M : Model} {s : Shape} {f : Floats} {ss : List ℕ} {r z : ℕ} {x : Limits} → ReadsLimits s f r z x → Call M s → Spans ss M → z ≡ get_or ss (r + 1) 0 - get_or ss r 0 → Of M r x.feas x.terms
+pub of_limits : {M : Model} {s : Context} {f : Floats} {ss : List ℕ} {r z : ℕ} {x : Limits} → ReadsLimits s f r z x → Call M s → Spans ss M → z ≡ get_or ss (r + 1) 0 - get_or ss r 0 → Of M r x.feas x.terms
 of_limits lim c e g =
     let o = of_call c e g in
     record { feas = o.feas ∙ sym lim.feas; terms = o.terms ∙ sym lim.terms; params = o.params }

@@ -5,7 +5,7 @@ use Rattle.std.specs.Float.{nan}
 use Rattle.tolerances.specs.Tol.{term}
 use Rattle.definition.specs.Model.{Model, Row}
 use Rattle.definition.specs.Work.{Work, Step, no_row, no_term}
-use Rattle.space.specs.declared.Shape.{Shape}
+use Rattle.space.specs.declared.Context.{Context}
 use Rattle.space.specs.Store.{Floats, Numbers}
 use Rattle.view.specs.Call.{Call}
 use Rattle.view.specs.Shows.{Shows}
@@ -23,14 +23,14 @@ pub record Onward (M : Model) (f : Floats) (n : Numbers) (o : List ℕ) (k : ℕ
   pub inv : Inv M k work
   pub holds : K work
 
-pub record Turning (P : Model → Type 0) (s : Shape) (f₀ : Floats) (n₀ : Numbers) (f : Floats) (n : Numbers) (K : Model → Work → Work → Type 0) : Type 0 where
+pub record Turning (P : Model → Type 0) (s : Context) (f₀ : Floats) (n₀ : Numbers) (f : Floats) (n : Numbers) (K : Model → Work → Work → Type 0) : Type 0 where
   pub each : (M : Model) (o : List ℕ) (k : ℕ) (w : Work) → P M → Call M s → Shows M f₀ n₀ o w → Inv M k w → Onward M f n o k (K M w)
 
 -- nothing is done yet
-pub turning_start : {P : Model → Type 0} {s : Shape} {f : Floats} {n : Numbers} {K : Model → Work → Work → Type 0} → ((M : Model) (w : Work) → K M w w) → Turning P s f n f n K
+pub turning_start : {P : Model → Type 0} {s : Context} {f : Floats} {n : Numbers} {K : Model → Work → Work → Type 0} → ((M : Model) (w : Work) → K M w w) → Turning P s f n f n K
 turning_start g = record { each = λ M o k w x c h i. record { work = w; shows = h; inv = i; holds = g M w } }
 
-module _ {P : Model → Type 0} {s : Shape} {f₀ : Floats} {n₀ : Numbers} {f : Floats} {n : Numbers} {K : Model → Work → Work → Type 0} (R : Ready P s f₀ n₀) (T : Turning P s f₀ n₀ f n K) where
+module _ {P : Model → Type 0} {s : Context} {f₀ : Floats} {n₀ : Numbers} {f : Floats} {n : Numbers} {K : Model → Work → Work → Type 0} (R : Ready P s f₀ n₀) (T : Turning P s f₀ n₀ f n K) where
   pub turned : Onward R.model f n R.other R.left (K R.model R.work)
   turned = T.each R.model R.other R.left R.work R.known R.call R.shows R.inv
 
@@ -48,7 +48,7 @@ module _ {P : Model → Type 0} {s : Shape} {f₀ : Floats} {n₀ : Numbers} {f 
       }
 
 -- the row stands as it did
-module _ {P : Model → Type 0} {s : Shape} {f₀ : Floats} {n₀ : Numbers} {f : Floats} {n : Numbers} {K : Model → Work → Work → Type 0} {ss : List ℕ} {r : ℕ}
+module _ {P : Model → Type 0} {s : Context} {f₀ : Floats} {n₀ : Numbers} {f : Floats} {n : Numbers} {K : Model → Work → Work → Type 0} {ss : List ℕ} {r : ℕ}
     (same : (M : Model) (w u : Work) → K M w u → u.rows ≡ w.rows) (q : (M : Model) → P M → Spans ss M) (p : r < s.rows) (a : Alive n₀ r) (T : Turning P s f₀ n₀ f n K) where
   module _ {M : Model} {o : List ℕ} {k : ℕ} {w : Work} (x : P M) (c : Call M s) (h : Shows M f₀ n₀ o w) (i : Inv M k w) where
     abbrev now : Onward M f n o k (K M w)
@@ -93,7 +93,7 @@ module _ {P : Model → Type 0} {s : Shape} {f₀ : Floats} {n₀ : Numbers} {f 
       still_var e = omega (arith, e, term_here_lem.var, term_here_lem.below)
 
 -- ---- a row is alive after a step that changes no row
-module _ {P : Model → Type 0} {s : Shape} {f f₁ : Floats} {n n₁ : Numbers} {r : ℕ} (R : Ready P s f n) where
+module _ {P : Model → Type 0} {s : Context} {f f₁ : Floats} {n n₁ : Numbers} {r : ℕ} (R : Ready P s f n) where
   pub alive_went : {F : Model → Work → Step} → Tries P s f n f₁ n₁ (Ok tt) F → ((M : Model) (w : Work) → Same w (F M w)) → r < s.rows → Alive n r → Alive n₁ r
   alive_went t g p a =
       let d = went_is (t.does R.model R.other R.left R.work R.known R.call R.shows R.inv) in

@@ -4,7 +4,7 @@ use Rattle.std.proofs.Common.{sym, subst}
 use Rattle.definition.specs.declared.Infeasible.{Infeasible}
 use Rattle.definition.specs.Model.{Model}
 use Rattle.definition.specs.Work.{Work, Step, next, ◌>>=◌}
-use Rattle.space.specs.declared.Shape.{Shape}
+use Rattle.space.specs.declared.Context.{Context}
 use Rattle.space.specs.Store.{Floats, Numbers}
 use Rattle.view.specs.Call.{Call}
 use Rattle.view.specs.Shows.{Shows, Outcome, StepShown, stopped}
@@ -12,7 +12,7 @@ use Rattle.view.specs.Inv.{Inv}
 use Rattle.view.specs.Acts.{Acts, ActsN, Tries, Any}
 use Rattle.view.specs.Steps.{InvStep, stops, goes}
 
-module _ {P : Model → Type 0} {s : Shape} {f f' : Floats} {n n' : Numbers} where
+module _ {P : Model → Type 0} {s : Context} {f f' : Floats} {n n' : Numbers} where
   pub tries_as : {z : Outcome} {F G : Model → Work → Step} → ((M : Model) (o : List ℕ) (k : ℕ) (w : Work) → P M → Call M s → Shows M f n o w → Inv M k w
       → F M w ≡ G M w) → Tries P s f n f' n' z G → Tries P s f n f' n' z F
   tries_as {z = z} e t =
@@ -22,7 +22,7 @@ module _ {P : Model → Type 0} {s : Shape} {f f' : Floats} {n n' : Numbers} whe
   acts_as e t = record { does = λ M o k w p c h i. subst (λ (y : Work). Shows M f' n' o y) (sym (e M o k w p c h i)) (t.does M o k w p c h i) }
 
 -- the numbers alone change, and nothing is asked of the model
-pub acts_any : {P : Model → Type 0} {s : Shape} {f : Floats} {n n' : Numbers} {F : Model → Work → Work} → ActsN Any s n n' F → Acts P s f n f n' F
+pub acts_any : {P : Model → Type 0} {s : Context} {f : Floats} {n n' : Numbers} {F : Model → Work → Work} → ActsN Any s n n' F → Acts P s f n f n' F
 acts_any {f = f} a = record { does = λ M o k w p c h i. a.does M f o k w tt c h i }
 
 pub stopped_then : {e : Infeasible} {M : Model} {f : Floats} {n : Numbers} {o : List ℕ} {y : Step} (g : Work → Step) → StepShown M f n o (Err e) y → StepShown M f n o (Err e) (y >>= g)
@@ -38,5 +38,5 @@ pub inv_then : {M : Model} {j k : ℕ} {z : Step} (g : Work → Step) → InvSte
 inv_then g stops t = stops
 inv_then g (goes {w} i) t = t w i
 
-pub tries_is : {P : Model → Type 0} {s : Shape} {f f' : Floats} {n n' : Numbers} {z y : Outcome} {F : Model → Work → Step} → Tries P s f n f' n' z F → z ≡ y → Tries P s f n f' n' y F
+pub tries_is : {P : Model → Type 0} {s : Context} {f f' : Floats} {n n' : Numbers} {z y : Outcome} {F : Model → Work → Step} → Tries P s f n f' n' z F → z ≡ y → Tries P s f n f' n' y F
 tries_is {P} {s} {f} {f'} {n} {n'} {F = F} t e = subst (λ (x : Outcome). Tries P s f n f' n' x F) e t

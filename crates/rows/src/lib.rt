@@ -10,7 +10,7 @@ ghost use Rattle.readers.specs.Reading.{row_of};
 ghost use Rattle.rows.specs.Knowing.{SpanAt, LimitsOf};
 
 use formulas::Limits;
-use space::{Alive, Dropped, Shape};
+use space::{Alive, Context, Dropped};
 
 // = nnz
 pub fn written_terms(starts: &[usize], r: usize) -> usize
@@ -21,19 +21,19 @@ pub fn written_terms(starts: &[usize], r: usize) -> usize
 }
 
 // The row's limits, of all terms that it has as written
-pub fn limits(starts: &[usize], w: &[f64], s: Shape, r: usize) -> Limits
-    requires r_lt_rows { (r < s.rows) × HoldsF s w.now }
+pub fn limits(starts: &[usize], floats: &[f64], cx: Context, r: usize) -> Limits
+    requires r_lt_rows { (r < cx.rows) × HoldsF cx floats.now }
     requires span_at { SpanAt starts.now r }
-    ensures { LimitsOf starts.now s (floats_of s w.now) r result }
+    ensures { LimitsOf starts.now cx (floats_of cx floats.now) r result }
 {
-    readers::limits(w, s, r, written_terms(starts, r))
+    readers::limits(floats, cx, r, written_terms(starts, r))
 }
 
 // = drop_row, of the row that stands in the state
-pub fn drop_row(m: &mut [usize], s: Shape, r: usize)
-    requires { (r < s.rows) × HoldsN s m.old }
-    ensures { ActsN Any s (numbers_of s m.old) (numbers_of s m.new) (λ M w. drop_row r (row_of w r) w) }
+pub fn drop_row(numbers: &mut [usize], cx: Context, r: usize)
+    requires { (r < cx.rows) × HoldsN cx numbers.old }
+    ensures { ActsN Any cx (numbers_of cx numbers.old) (numbers_of cx numbers.new) (λ M w. drop_row r (row_of w r) w) }
 {
-    space::put::<Alive>(m, s, r, 0);
-    space::count::<Dropped>(m, s);
+    space::put::<Alive>(numbers, cx, r, 0);
+    space::count::<Dropped>(numbers, cx);
 }

@@ -10,7 +10,7 @@ use Rattle.definition.specs.Work.{Work, with_row, Step, stop, next, ◌>>=◌, n
 use Rattle.definition.specs.Folds.{fold_fixed}
 use Rattle.definition.specs.Singles.{empty_row_check}
 use Rattle.definition.specs.Emit.{no_terms}
-use Rattle.space.specs.declared.Shape.{Shape}
+use Rattle.space.specs.declared.Context.{Context}
 use Rattle.space.specs.Store.{Floats, Numbers}
 use Rattle.view.specs.Call.{Call}
 use Rattle.view.specs.Shows.{Shows, StepShown, went, Outcome}
@@ -44,7 +44,7 @@ some_terms [] e = absurd (e refl)
 some_terms (t ∷ ts) e = refl
 
 -- ---- settle_alive
-module _ {P : Model → Type 0} {s : Shape} {f f₁ : Floats} {n n₁ : Numbers} (r : ℕ) (p : r < s.rows) (a : Alive n r) (A : Acts P s f n f₁ n₁ (λ M. folded r M))
+module _ {P : Model → Type 0} {s : Context} {f f₁ : Floats} {n n₁ : Numbers} (r : ℕ) (p : r < s.rows) (a : Alive n r) (A : Acts P s f n f₁ n₁ (λ M. folded r M))
     {l : ℕ} (el : l ≡ get_or n₁.len r 0) where
   module _ (M : Model) (o : List ℕ) (k : ℕ) (w : Work) (x : P M) (c : Call M s) (h : Shows M f n o w) (i : Inv M k w) where
     in_rows : r < length M.rhs
@@ -78,7 +78,7 @@ module _ {P : Model → Type 0} {s : Shape} {f f₁ : Floats} {n n₁ : Numbers}
       }
 
 -- ---- settle_row
-module _ {P : Model → Type 0} {ss os : List ℕ} {bs : List Float} {s : Shape} (r : ℕ) (p : r < s.rows) (known : (M : Model) → P M → (M.starts ≡ ss)
+module _ {P : Model → Type 0} {ss os : List ℕ} {bs : List Float} {s : Context} (r : ℕ) (p : r < s.rows) (known : (M : Model) → P M → (M.starts ≡ ss)
     × (M.cmp ≡ os) × (M.rhs ≡ bs)) {t : Bool} (T : TellsTrivial s ss os bs r t) where
   trivial_is : (M : Model) → P M → Call M s → trivial M r ≡ t
   trivial_is M x c = let a = known M x in T.tells M a.0 a.1 a.2 c
@@ -106,7 +106,7 @@ module _ {P : Model → Type 0} {ss os : List ℕ} {bs : List Float} {s : Shape}
       }
 
 -- ---- it keeps the invariant
-pub row_keeps : {P : Model → Type 0} {s : Shape} (r : ℕ) → r < s.rows → KeepsStep P s (λ M. settle_row M r)
+pub row_keeps : {P : Model → Type 0} {s : Context} (r : ℕ) → r < s.rows → KeepsStep P s (λ M. settle_row M r)
 unfolding settle_row settle_alive
 row_keeps {P = P} {s = s} r p =
     record {
@@ -157,24 +157,24 @@ none_keeps : (M : Model) (k : ℕ) (w : Work) → Inv M k w → InvStep M k (set
 unfolding settle_from
 none_keeps M k w i = goes i
 
-pub from_keeps : {P : Model → Type 0} {s : Shape} (r : ℕ) → r ≤ s.rows → KeepsStep P s (λ M. settle_from M r 0)
+pub from_keeps : {P : Model → Type 0} {s : Context} (r : ℕ) → r ≤ s.rows → KeepsStep P s (λ M. settle_from M r 0)
 from_keeps zero p = record { keeps = λ M k w x c i. none_keeps M k w i }
 from_keeps {P = P} {s = s} (suc r) p =
     let K = keeps_then (from_keeps {P = P} {s = s} r (omega (arith, p))) (row_keeps {P = P} {s = s} r (omega (arith, p))) in
     record { keeps = λ M k w x c i. subst (InvStep M k) (sym (ap (λ (j : ℕ). settle_from M j 0 w) (sym (add-one r)) ∙ settle_snoc M r w)) (K.keeps M k w x c i) }
 
 -- the rows below r went on
-pub record Settling (P : Model → Type 0) (s : Shape) (f₀ : Floats) (n₀ : Numbers) (f : Floats) (n : Numbers) (r : ℕ) : Type 0 where
+pub record Settling (P : Model → Type 0) (s : Context) (f₀ : Floats) (n₀ : Numbers) (f : Floats) (n : Numbers) (r : ℕ) : Type 0 where
   pub upto : r ≤ s.rows
   pub ready : Ready P s f n
   pub tries : Tries P s f₀ n₀ f n (Ok tt) (λ M. settle_from M r 0)
 
-module _ {P : Model → Type 0} {s : Shape} {f : Floats} {n : Numbers} where
+module _ {P : Model → Type 0} {s : Context} {f : Floats} {n : Numbers} where
   pub settle_start : Ready P s f n → Settling P s f n f n 0
   unfolding settle_from
   settle_start R = record { upto = omega arith; ready = R; tries = record { does = λ M o k w x c h i. went h } }
 
-module _ {P : Model → Type 0} {s : Shape} {f₀ : Floats} {n₀ : Numbers} {f : Floats} {n : Numbers} {r : ℕ} (S : Settling P s f₀ n₀ f n r) where
+module _ {P : Model → Type 0} {s : Context} {f₀ : Floats} {n₀ : Numbers} {f : Floats} {n : Numbers} {r : ℕ} (S : Settling P s f₀ n₀ f n r) where
   one_more : {f₁ : Floats} {n₁ : Numbers} {z : Outcome} → Tries P s f n f₁ n₁ z (λ M. settle_row M r) → Tries P s f₀ n₀ f₁ n₁ z (λ M. settle_from M (r + 1) 0)
   one_more {f₁} {n₁} {z} T =
       let U = tries_then S.tries (from_keeps r S.upto) T in

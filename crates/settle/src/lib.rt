@@ -13,26 +13,26 @@ ghost use Rattle.readers.specs.Reading.{row_of, Alive};
 ghost use Rattle.emit.specs.Settled.{settle_alive, settle_row, settle_from};
 
 use definition::{Infeasible, Rows};
-use space::{Len, Shape};
+use space::{Context, Len};
 
 // = settle_alive, of the row folded
 fn settle_alive(
     rows: Rows,
-    w: &mut [f64],
-    m: &mut [usize],
-    s: Shape,
+    floats: &mut [f64],
+    numbers: &mut [usize],
+    cx: Context,
     r: usize,
 ) -> Result<(), Infeasible>
-    requires r_lt_rows { (r < s.rows) × HoldsF s w.old × HoldsN s m.old × Alive (numbers_of s m.old) r }
-    requires ready { Ready (Written rows) s (floats_of s w.old) (numbers_of s m.old) }
-    ensures { Tries (Written rows.entry) s
-        (floats_of s w.old) (numbers_of s m.old) (floats_of s w.new) (numbers_of s m.new) result
+    requires r_lt_rows { (r < cx.rows) × HoldsF cx floats.old × HoldsN cx numbers.old × Alive (numbers_of cx numbers.old) r }
+    requires ready { Ready (Written rows) cx (floats_of cx floats.old) (numbers_of cx numbers.old) }
+    ensures { Tries (Written rows.entry) cx
+        (floats_of cx floats.old) (numbers_of cx numbers.old) (floats_of cx floats.new) (numbers_of cx numbers.new) result
         (λ M u. settle_alive M r (fold_fixed M r u (row_of u r)) u) }
 {
-    folds::fold_row(rows, w, m, s, r);
-    let len = space::get::<Len>(m, s, r);
+    folds::fold_row(rows, floats, numbers, cx, r);
+    let len = space::get::<Len>(numbers, cx, r);
     if len == 0 {
-        return singles::empty_row_check(rows, w, m, s, r);
+        return singles::empty_row_check(rows, floats, numbers, cx, r);
     }
     Ok(())
 }
@@ -40,36 +40,41 @@ fn settle_alive(
 // = settle_row
 fn settle_row(
     rows: Rows,
-    w: &mut [f64],
-    m: &mut [usize],
-    s: Shape,
+    floats: &mut [f64],
+    numbers: &mut [usize],
+    cx: Context,
     r: usize,
 ) -> Result<(), Infeasible>
-    requires r_lt_rows { (r < s.rows) × HoldsF s w.old × HoldsN s m.old }
-    requires ready { Ready (Written rows) s (floats_of s w.old) (numbers_of s m.old) }
-    ensures { Tries (Written rows.entry) s
-        (floats_of s w.old) (numbers_of s m.old) (floats_of s w.new) (numbers_of s m.new) result (λ M. settle_row M r) }
+    requires r_lt_rows { (r < cx.rows) × HoldsF cx floats.old × HoldsN cx numbers.old }
+    requires ready { Ready (Written rows) cx (floats_of cx floats.old) (numbers_of cx numbers.old) }
+    ensures { Tries (Written rows.entry) cx
+        (floats_of cx floats.old) (numbers_of cx numbers.old) (floats_of cx floats.new) (numbers_of cx numbers.new) result (λ M. settle_row M r) }
 {
-    if emit::is_trivial(rows, s, r) {
+    if emit::is_trivial(rows, cx, r) {
         return Ok(());
     }
-    let alive = space::get::<space::Alive>(m, s, r);
+    let alive = space::get::<space::Alive>(numbers, cx, r);
     if alive == 1 {
-        return settle_alive(rows, w, m, s, r);
+        return settle_alive(rows, floats, numbers, cx, r);
     }
     Ok(())
 }
 
 // = settle_from, of all rows
-pub fn settle_rows(rows: Rows, w: &mut [f64], m: &mut [usize], s: Shape) -> Result<(), Infeasible>
-    requires holds_f { HoldsF s w.old × HoldsN s m.old }
-    requires ready { Ready (Written rows) s (floats_of s w.old) (numbers_of s m.old) }
-    ensures { Tries (Written rows.entry) s
-        (floats_of s w.old) (numbers_of s m.old) (floats_of s w.new) (numbers_of s m.new) result
-        (λ M. settle_from M s.rows 0) }
+pub fn settle_rows(
+    rows: Rows,
+    floats: &mut [f64],
+    numbers: &mut [usize],
+    cx: Context,
+) -> Result<(), Infeasible>
+    requires holds_f { HoldsF cx floats.old × HoldsN cx numbers.old }
+    requires ready { Ready (Written rows) cx (floats_of cx floats.old) (numbers_of cx numbers.old) }
+    ensures { Tries (Written rows.entry) cx
+        (floats_of cx floats.old) (numbers_of cx numbers.old) (floats_of cx floats.new) (numbers_of cx numbers.new) result
+        (λ M. settle_from M cx.rows 0) }
 {
     for r in 0..s.rows {
-        settle_row(rows, w, m, s, r)?;
+        settle_row(rows, floats, numbers, cx, r)?;
     }
     Ok(())
 }

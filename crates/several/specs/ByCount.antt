@@ -8,7 +8,7 @@ use Rattle.definition.specs.Model.{Model, Row}
 use Rattle.definition.specs.Work.{Work, no_term}
 use Rattle.definition.specs.Singles.{empty_row_check, singleton_row}
 use Rattle.definition.specs.Wave.{several_terms, by_count}
-use Rattle.space.specs.declared.Shape.{Shape}
+use Rattle.space.specs.declared.Context.{Context}
 use Rattle.space.specs.Store.{Floats, Numbers}
 use Rattle.view.specs.declared.Lists.{Lists}
 use Rattle.view.specs.Call.{Call}
@@ -44,11 +44,11 @@ module _ (M : Model) (r : ℕ) (row : Row) (w : Work) where
   count_more (t ∷ []) e d = absurd (d refl)
   count_more (t ∷ u ∷ ts) e d = refl
 
-len_of : {ss : List ℕ} {s : Shape} {f : Floats} {n : Numbers} {r l : ℕ} {M : Model} {o : List ℕ} {k : ℕ} {w : Work} → r < s.rows → Alive n r
+len_of : {ss : List ℕ} {s : Context} {f : Floats} {n : Numbers} {r l : ℕ} {M : Model} {o : List ℕ} {k : ℕ} {w : Work} → r < s.rows → Alive n r
     → l ≡ get_or n.len r 0 → Spans ss M → Call M s → Shows M f n o w → Inv M k w → l ≡ length (row_of w r).terms
 len_of p al el q c h i = el ∙ (row_at c h p al i q).len
 
-module _ {lists : Lists} {s : Shape} {f f' : Floats} {n n' : Numbers} {z : Outcome}
+module _ {lists : Lists} {s : Context} {f f' : Floats} {n n' : Numbers} {z : Outcome}
     (r : ℕ) {l : ℕ} (p : r < s.rows) (al : Alive n r) (el : l ≡ get_or n.len r 0) where
   pub by_none : l ≡ 0 → Tries (Written lists.rows) s f n f' n' z (λ M w. empty_row_check M r (row_of w r) w) → Tries (Known lists) s f n f' n' z
       (λ M w. by_count M r (row_of w r) (row_of w r).terms w)

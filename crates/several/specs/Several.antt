@@ -13,7 +13,7 @@ use Rattle.definition.specs.Sides.{within, above_hi, below_lo, near_min, near_ma
 use Rattle.definition.specs.Forcing.{forces_min, forces_max, fix_all}
 use Rattle.definition.specs.Implied.{implied_bounds}
 use Rattle.definition.specs.Wave.{several_terms}
-use Rattle.space.specs.declared.Shape.{Shape}
+use Rattle.space.specs.declared.Context.{Context}
 use Rattle.space.specs.Store.{Floats, Numbers}
 use Rattle.several.specs.declared.several.Ending.{Ending}
 use Rattle.several.specs.declared.several.Ending.TheVariants.{ForceMin, ForceMax, Drop, Open}
@@ -74,7 +74,7 @@ several_is M r row w =
     rw (a, b, d) refl
 
 -- ---- force_row
-pub force_acts : {P : Model → Type 0} {s : Shape} {f f₁ : Floats} {n n₁ n₂ : Numbers} (minCorner : Bool) (r : ℕ) → Acts P s f n f₁ n₁
+pub force_acts : {P : Model → Type 0} {s : Context} {f f₁ : Floats} {n n₁ n₂ : Numbers} (minCorner : Bool) (r : ℕ) → Acts P s f n f₁ n₁
     (λ M w. fix_all M minCorner w (row_of w r).terms w) → ActsN Any s n₁ n₂ (λ M w. drop_row r (row_of w r) w)
     → Acts P s f n f₁ n₂ (λ M w. drop_row r (row_of w r) (fix_all M minCorner w (row_of w r).terms w))
 force_acts minCorner r t u =
@@ -85,7 +85,7 @@ force_acts minCorner r t u =
     (acts_then t (fix_all_keeps minCorner r) (acts_any u))
 
 -- ---- ending
-pub end_skips : {P : Model → Type 0} {s : Shape} {f : Floats} {n : Numbers} (b : Bool) (F : Model → Work → Ending) → not b ≡ true → Reads P s f n Open (λ M w. end_if b (F M w))
+pub end_skips : {P : Model → Type 0} {s : Context} {f : Floats} {n : Numbers} (b : Bool) (F : Model → Work → Ending) → not b ≡ true → Reads P s f n Open (λ M w. end_if b (F M w))
 unfolding end_if
 end_skips false F t = record { reads = λ M o k w p c h i. refl }
 end_skips true F t = absurd (let z : ◌≡◌ {A = ℕ} 0 1 = (let y = t in cc) in omega arith)
@@ -94,7 +94,7 @@ holds : (b : Bool) → not b ≡ false → b ≡ true
 holds true t = refl
 holds false t = absurd (let z : ◌≡◌ {A = ℕ} 0 1 = (let y = t in cc) in omega arith)
 
-module _ {lists : Lists} {s : Shape} {f : Floats} {n : Numbers} (r : ℕ) (act : Activity) {e : Activity} {b : Bool} (a : Bool) (t : not a ≡ false)
+module _ {lists : Lists} {s : Context} {f : Floats} {n : Numbers} (r : ℕ) (act : Activity) {e : Activity} {b : Bool} (a : Bool) (t : not a ≡ false)
     (ea : Reads (Spans lists.rows.starts.now) s f n e (λ M w. activity M w (row_of w r) false)) (eb : Reads (Looks lists) s f n b (λ M w. choose true (forces_min M r (row_of w r) act e w) (forces_max M r (row_of w r) act e w))) where
   reads_end : {z : Ending} → ((M : Model) (o : List ℕ) (k : ℕ) (w : Work) → Looks lists M → Call M s → Shows M f n o w → Inv M k w → end_of M r (row_of w r) act e w ≡ z)
       → Reads (Looks lists) s f n z (λ M w. end_if a (end_of M r (row_of w r) act (activity M w (row_of w r) false) w))
@@ -160,7 +160,7 @@ module _ {tol : Float} {l : ℕ} (x : Limits) (act : Activity) {a b : Bool} (p :
       }
 
 -- ---- several_terms
-module _ {lists : Lists} {s : Shape} {f : Floats} {n : Numbers} (r : ℕ) {act : Activity} {x : Limits} {l : ℕ} {y : Result Bool Infeasible} (al : Alive n r)
+module _ {lists : Lists} {s : Context} {f : Floats} {n : Numbers} (r : ℕ) {act : Activity} {x : Limits} {l : ℕ} {y : Result Bool Infeasible} (al : Alive n r)
     (ea : Reads (Spans lists.rows.starts.now) s f n act (λ M w. activity M w (row_of w r) true)) (lim : ReadsLimits s f r l x) (en : l ≡ get_or lists.rows.starts.now (r + 1) 0 - get_or lists.rows.starts.now r 0)
     (eb : Says x.feas x.terms y (λ M q. reached (unreachable M q (bare x) act) (may_reduce M q (bare x) act))) where
   reach_is : {M : Model} {o : List ℕ} {k : ℕ} {w : Work} → Moves lists M → Call M s → Shows M f n o w → Inv M k w

@@ -8,28 +8,28 @@ ghost use Rattle.readers.specs.Reading.{row_of, Alive};
 
 use crate::several::several_terms;
 use definition::Infeasible;
-use space::{Len, Shape};
+use space::{Context, Len};
 use view::Lists;
 
 // = by_count
 pub fn by_count(
     lists: Lists,
-    w: &mut [f64],
-    m: &mut [usize],
-    s: Shape,
+    floats: &mut [f64],
+    numbers: &mut [usize],
+    cx: Context,
     r: usize,
 ) -> Result<(), Infeasible>
-    requires r_lt_rows { (r < s.rows) × HoldsF s w.old × HoldsN s m.old × Alive (numbers_of s m.old) r }
-    requires ready { Ready (Known lists) s (floats_of s w.old) (numbers_of s m.old) }
-    ensures { Tries (Known lists.entry) s (floats_of s w.old) (numbers_of s m.old) (floats_of s w.new) (numbers_of s m.new) result
+    requires r_lt_rows { (r < cx.rows) × HoldsF cx floats.old × HoldsN cx numbers.old × Alive (numbers_of cx numbers.old) r }
+    requires ready { Ready (Known lists) cx (floats_of cx floats.old) (numbers_of cx numbers.old) }
+    ensures { Tries (Known lists.entry) cx (floats_of cx floats.old) (numbers_of cx numbers.old) (floats_of cx floats.new) (numbers_of cx numbers.new) result
         (λ M u. by_count M r (row_of u r) (row_of u r).terms u) }
 {
-    let n = space::get::<Len>(m, s, r);
+    let n = space::get::<Len>(numbers, cx, r);
     if n == 0 {
-        singles::empty_row_check(lists.rows, w, m, s, r)
+        singles::empty_row_check(lists.rows, floats, numbers, cx, r)
     } else if n == 1 {
-        singles::singleton_row(lists, w, m, s, r)
+        singles::singleton_row(lists, floats, numbers, cx, r)
     } else {
-        several_terms(lists, w, m, s, r)
+        several_terms(lists, floats, numbers, cx, r)
     }
 }

@@ -18,19 +18,26 @@ ghost use Rattle.several.specs.Several.{end_if, end_of, reached};
 use definition::{Activity, Infeasible};
 use formulas::Limits;
 use readers::{Emitted, Working};
-use space::Shape;
+use space::Context;
 use view::Lists;
 
 // Each variable at its corner, and the row dropped. Which corner is a flag, as the definition's fix_all has it: one function with the
 // definition's own parameter is plainer than two.
-fn force_row(lists: Lists, w: &mut [f64], m: &mut [usize], s: Shape, r: usize, minCorner: bool)
-    requires r_lt_rows { (r < s.rows) × HoldsF s w.old × HoldsN s m.old × Alive (numbers_of s m.old) r }
-    requires ready { Ready (Marks lists) s (floats_of s w.old) (numbers_of s m.old) }
-    ensures { Acts (Marks lists.entry) s (floats_of s w.old) (numbers_of s m.old)
-        (floats_of s w.new) (numbers_of s m.new) (λ M u. drop_row r (row_of u r) (fix_all M minCorner u (row_of u r).terms u)) }
+fn force_row(
+    lists: Lists,
+    floats: &mut [f64],
+    numbers: &mut [usize],
+    cx: Context,
+    r: usize,
+    minCorner: bool,
+)
+    requires r_lt_rows { (r < cx.rows) × HoldsF cx floats.old × HoldsN cx numbers.old × Alive (numbers_of cx numbers.old) r }
+    requires ready { Ready (Marks lists) cx (floats_of cx floats.old) (numbers_of cx numbers.old) }
+    ensures { Acts (Marks lists.entry) cx (floats_of cx floats.old) (numbers_of cx numbers.old)
+        (floats_of cx floats.new) (numbers_of cx numbers.new) (λ M u. drop_row r (row_of u r) (fix_all M minCorner u (row_of u r).terms u)) }
 {
-    forcing::fix_all(lists, w, m, s, r, minCorner);
-    rows::drop_row(m, s, r);
+    forcing::fix_all(lists, floats, numbers, cx, r, minCorner);
+    rows::drop_row(numbers, cx, r);
 }
 
 // What the emitted activity makes of a row: its variables forced to a corner, the row dropped, or neither. Four ends, so no Option and
@@ -47,27 +54,27 @@ pub enum Ending {
 // parameters, each another thing: what was read of the row is handed in, so that it is read once.
 fn end_of(
     lists: Lists,
-    w: &[f64],
-    m: &[usize],
-    s: Shape,
+    floats: &[f64],
+    numbers: &[usize],
+    cx: Context,
     r: usize,
     x: Limits,
     act: Activity,
     reduces: bool,
 ) -> Ending
-    requires r_lt_rows { (r < s.rows) × HoldsF s w.now × HoldsN s m.now × Alive (numbers_of s m.now) r }
-    requires ready { Ready (Looks lists) s (floats_of s w.now) (numbers_of s m.now) }
-    requires limits { ReadsLimits s (floats_of s w.now) r x.terms x }
-    ensures { Reads (Looks lists.entry) s (floats_of s w.now) (numbers_of s m.now) result
+    requires r_lt_rows { (r < cx.rows) × HoldsF cx floats.now × HoldsN cx numbers.now × Alive (numbers_of cx numbers.now) r }
+    requires ready { Ready (Looks lists) cx (floats_of cx floats.now) (numbers_of cx numbers.now) }
+    requires limits { ReadsLimits cx (floats_of cx floats.now) r x.terms x }
+    ensures { Reads (Looks lists.entry) cx (floats_of cx floats.now) (numbers_of cx numbers.now) result
         (λ M u. end_if reduces (end_of M r (row_of u r) act (activities.activity M u (row_of u r) false) u)) }
 {
     if !reduces {
         return Ending::Open;
     }
-    let e = readers::activity::<Emitted>(lists.rows.starts, w, m, s, r);
-    if forcing::forces(lists, w, m, s, r, true, act, e) {
+    let e = readers::activity::<Emitted>(lists.rows.starts, floats, numbers, cx, r);
+    if forcing::forces(lists, floats, numbers, cx, r, true, act, e) {
         Ending::ForceMin
-    } else if forcing::forces(lists, w, m, s, r, false, act, e) {
+    } else if forcing::forces(lists, floats, numbers, cx, r, false, act, e) {
         Ending::ForceMax
     } else if x.redundant(act, e) {
         Ending::Drop
@@ -96,25 +103,25 @@ fn reach_of(x: Limits, act: Activity) -> Result<bool, Infeasible>
 // = several_terms. implied_bounds is called from one place, so that it is compiled into this.
 pub(crate) fn several_terms(
     lists: Lists,
-    w: &mut [f64],
-    m: &mut [usize],
-    s: Shape,
+    floats: &mut [f64],
+    numbers: &mut [usize],
+    cx: Context,
     r: usize,
 ) -> Result<(), Infeasible>
-    requires r_lt_rows { (r < s.rows) × HoldsF s w.old × HoldsN s m.old × Alive (numbers_of s m.old) r }
-    requires ready { Ready (Moves lists) s (floats_of s w.old) (numbers_of s m.old) }
-    ensures { Tries (Moves lists.entry) s (floats_of s w.old) (numbers_of s m.old)
-        (floats_of s w.new) (numbers_of s m.new) result (λ M u. several_terms M r (row_of u r) u) }
+    requires r_lt_rows { (r < cx.rows) × HoldsF cx floats.old × HoldsN cx numbers.old × Alive (numbers_of cx numbers.old) r }
+    requires ready { Ready (Moves lists) cx (floats_of cx floats.old) (numbers_of cx numbers.old) }
+    ensures { Tries (Moves lists.entry) cx (floats_of cx floats.old) (numbers_of cx numbers.old)
+        (floats_of cx floats.new) (numbers_of cx numbers.new) result (λ M u. several_terms M r (row_of u r) u) }
 {
     let starts = lists.rows.starts;
-    let act = readers::activity::<Working>(starts, w, m, s, r);
-    let x = rows::limits(starts, w, s, r);
+    let act = readers::activity::<Working>(starts, floats, numbers, cx, r);
+    let x = rows::limits(starts, floats, cx, r);
     let reduces = reach_of(x, act)?;
-    match end_of(lists, w, m, s, r, x, act, reduces) {
-        Ending::ForceMin => force_row(lists, w, m, s, r, true),
-        Ending::ForceMax => force_row(lists, w, m, s, r, false),
-        Ending::Drop => rows::drop_row(m, s, r),
-        Ending::Open => return implied::implied_bounds(lists, w, m, s, r, act),
+    match end_of(lists, floats, numbers, cx, r, x, act, reduces) {
+        Ending::ForceMin => force_row(lists, floats, numbers, cx, r, true),
+        Ending::ForceMax => force_row(lists, floats, numbers, cx, r, false),
+        Ending::Drop => rows::drop_row(numbers, cx, r),
+        Ending::Open => return implied::implied_bounds(lists, floats, numbers, cx, r, act),
     }
     Ok(())
 }

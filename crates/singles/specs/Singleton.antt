@@ -10,7 +10,7 @@ use Rattle.definition.specs.Model.{Model, Row, is_int}
 use Rattle.definition.specs.Work.{Work, Step, stop, next, ◌>>=◌, no_term, no_row, drop_row}
 use Rattle.definition.specs.Bounds.{emit_bounds}
 use Rattle.definition.specs.Singles.{new_lower, new_upper, singleton_int, singleton_misses, singleton_bounds, lower_meets, upper_meets, singleton_drop, singleton_row}
-use Rattle.space.specs.declared.Shape.{Shape}
+use Rattle.space.specs.declared.Context.{Context}
 use Rattle.space.specs.Store.{Floats, Numbers}
 use Rattle.formulas.specs.declared.Limits.{Limits}
 use Rattle.formulas.specs.declared.Ends.{Ends}
@@ -37,11 +37,11 @@ use Rattle.rows.specs.Steps.{tries_as, stopped_then, inv_next, inv_then}
 use Rattle.rows.specs.Drop.{inv_drop, drop_passes}
 
 -- what is read of an alive row by a function that has the floats alone
-pub record ReadsRow {A : Type 0} (P : Model → Type 0) (s : Shape) (f : Floats) (r : ℕ) (z : A) (F : Model → Work → A) : Type 0 where
+pub record ReadsRow {A : Type 0} (P : Model → Type 0) (s : Context) (f : Floats) (r : ℕ) (z : A) (F : Model → Work → A) : Type 0 where
   pub reads : (n : Numbers) → Alive n r → Reads P s f n z F
 
 -- ---- singleton_int
-module _ {lists : Lists} {s : Shape} {f : Floats} {n : Numbers} (r v : ℕ) (a blo bhi : Float) {x : Limits} {l : ℕ} {el eh lo hi : Float} (al : Alive n r)
+module _ {lists : Lists} {s : Context} {f : Floats} {n : Numbers} (r v : ℕ) (a blo bhi : Float) {x : Limits} {l : ℕ} {el eh lo hi : Float} (al : Alive n r)
     (lim : ReadsLimits s f r l x) (en : l ≡ get_or lists.rows.starts.now (r + 1) 0 - get_or lists.rows.starts.now r 0)
     (e₁ : el ≡ get_or f.elo v nan) (e₂ : eh ≡ get_or f.ehi v nan) (e₃ : Says x.feas x.terms lo (λ M q. new_lower M q (bare x) a blo el))
     (e₄ : Says x.feas x.terms hi (λ M q. new_upper M q (bare x) a bhi eh)) where
@@ -61,12 +61,12 @@ module _ {lists : Lists} {s : Shape} {f : Floats} {n : Numbers} (r v : ℕ) (a b
   pub int_stop : {e₀ : Infeasible} → gt lo hi ≡ true → Tries (Marks lists) s f n f n (Err e₀) (λ M w. singleton_int M r (row_of w r) v a blo bhi w)
   int_stop e = record { does = λ M o k w p c h i. stopped_by {w = w} (int_is p c h ∙ yes _ _ e) h }
 
-  pub int_emit : {f' : Floats} {n' : Numbers} → gt lo hi ≡ false → Acts (Adj lists.adj.now) s f n f' n' (λ M. emit_bounds M v lo hi) → Tries (Marks lists) s f n f' n' (Ok tt)
+  pub int_emit : {f' : Floats} {n' : Numbers} → gt lo hi ≡ false → Acts (Adj lists.adjacency.now) s f n f' n' (λ M. emit_bounds M v lo hi) → Tries (Marks lists) s f n f' n' (Ok tt)
       (λ M w. singleton_int M r (row_of w r) v a blo bhi w)
   int_emit e t = record { does = λ M o k w p c h i. went_by (int_is p c h ∙ no _ _ e) (t.does M o k w (marks_adj M p) c h i) }
 
 -- ---- singleton_misses
-pub misses_is : {ss : List ℕ} {s : Shape} {f : Floats} (r v : ℕ) (a blo bhi : Float) {x : Limits} {l : ℕ} {e : Ends} {z : Bool} → ReadsLimits s f r l x → l ≡ get_or ss (r + 1) 0 - get_or ss r 0
+pub misses_is : {ss : List ℕ} {s : Context} {f : Floats} (r v : ℕ) (a blo bhi : Float) {x : Limits} {l : ℕ} {e : Ends} {z : Bool} → ReadsLimits s f r l x → l ≡ get_or ss (r + 1) 0 - get_or ss r 0
     → ReadsEnds s f v e → Says x.feas x.terms z (λ M q. misses_at M q (bare x) a blo bhi e.lo e.hi e.tol_lo e.tol_hi) → ReadsRow (Spans ss) s f r z (λ M w. singleton_misses M r (row_of w r) v a blo bhi w)
 misses_is r v a blo bhi lim en e ez =
     record {
@@ -79,7 +79,7 @@ misses_is r v a blo bhi lim en e ez =
     }
 
 -- ---- singleton_bounds
-module _ {lists : Lists} {s : Shape} {f : Floats} {n : Numbers} (r v : ℕ) (a blo bhi : Float) {b : Bool} (eb : ReadsM (Domains lists.domain.now) s b (λ M. is_int M v)) where
+module _ {lists : Lists} {s : Context} {f : Floats} {n : Numbers} (r v : ℕ) (a blo bhi : Float) {b : Bool} (eb : ReadsM (Domains lists.domain.now) s b (λ M. is_int M v)) where
   pub bounds_int : {f' : Floats} {n' : Numbers} {z : Outcome} → b ≡ true → Tries (Marks lists) s f n f' n' z
       (λ M w. singleton_int M r (row_of w r) v a blo bhi w) → Tries (Moves lists) s f n f' n' z (λ M w. singleton_bounds M r (row_of w r) v a blo bhi w)
   unfolding singleton_bounds
@@ -101,7 +101,7 @@ module _ {lists : Lists} {s : Shape} {f : Floats} {n : Numbers} (r v : ℕ) (a b
         }
 
 -- ---- row_implied
-module _ {s : Shape} {f : Floats} (r v : ℕ) (a blo bhi : Float) {x : Limits} {l : ℕ} {e : Ends} (lim : ReadsLimits s f r l x) (en : ReadsEnds s f v e) where
+module _ {s : Context} {f : Floats} (r v : ℕ) (a blo bhi : Float) {x : Limits} {l : ℕ} {e : Ends} (lim : ReadsLimits s f r l x) (en : ReadsEnds s f v e) where
   module _ {M : Model} {n : Numbers} {o : List ℕ} {k : ℕ} {w : Work} (al : Alive n r) (c : Call M s) (h : Shows M f n o w) (i : Inv M k w) where
     low_is : {b : Bool} → ByTol x.feas b (λ M. meets_lower M (bare x) a blo e.lo e.tol_lo) → lower_meets M (row_of w r) v a blo w ≡ b
     low_is eb = sym (lower_meets_of M v a w blo (lim.has M n o w c h al)) ∙ cc (elo_is v h en.lo, en.tol_lo.reads M n o k w tt c h i, eb.of M (sym c.feas ∙ sym lim.feas))
@@ -118,7 +118,7 @@ module _ {s : Shape} {f : Floats} (r v : ℕ) (a blo bhi : Float) {x : Limits} {
   implied_by eb g ez = record { reads = λ n al. record { reads = λ M o k w p c h i. rw (low_is al c h i eb ∙ g) (high_is al c h i ez) } }
 
 -- ---- singleton_drop
-module _ {s : Shape} {f : Floats} {n : Numbers} (r v : ℕ) (a blo bhi : Float) {b : Bool} (al : Alive n r) (eb : ReadsRow Any s f r b
+module _ {s : Context} {f : Floats} {n : Numbers} (r v : ℕ) (a blo bhi : Float) {b : Bool} (al : Alive n r) (eb : ReadsRow Any s f r b
     (λ M w. lower_meets M (row_of w r) v a blo w && upper_meets M (row_of w r) v a bhi w)) where
   pub single_drop : {n' : Numbers} → b ≡ true → ActsN Any s n n' (λ M w. drop_row r (row_of w r) w) → Acts Any s f n f n' (λ M w. singleton_drop M r (row_of w r) v a blo bhi w)
   unfolding singleton_drop
@@ -167,7 +167,7 @@ passes_single M r row t w =
     (λ u. same (passes_single_drop M r t.var row t.coeff (lower_side row t.coeff) (upper_side row t.coeff) u)))
 
 -- ---- singleton_row
-module _ {P : Model → Type 0} {s : Shape} {f : Floats} {n : Numbers} {ss : List ℕ} {r : ℕ} (R : Ready P s f n) (q : (M : Model) → P M → Spans ss M)
+module _ {P : Model → Type 0} {s : Context} {f : Floats} {n : Numbers} {ss : List ℕ} {r : ℕ} (R : Ready P s f n) (q : (M : Model) → P M → Spans ss M)
     (p : r < s.rows) (al : Alive n r) (one : get_or n.len r 0 ≡ 1) where
   pub single_place : get_or ss r 0 < s.terms
   single_place = omega (arith, live_place R q p al {j = 0} (omega (arith, one)))
@@ -177,7 +177,7 @@ module _ {P : Model → Type 0} {s : Shape} {f : Floats} {n : Numbers} {ss : Lis
       let z : get_or ss r 0 ≡ get_or ss r 0 + 0 = omega arith in
       live_var R q p al {j = 0} {x = v} (omega (arith, one)) (e ∙ ap (λ (j : ℕ). get_or n.vars j 0) z)
 
-module _ {lists : Lists} {s : Shape} {f : Floats} {n : Numbers} (r : ℕ) {v : ℕ} {a blo bhi : Float} {x : Limits} (p : r < s.rows) (al : Alive n r)
+module _ {lists : Lists} {s : Context} {f : Floats} {n : Numbers} (r : ℕ) {v : ℕ} {a blo bhi : Float} {x : Limits} (p : r < s.rows) (al : Alive n r)
     (one : get_or n.len r 0 ≡ 1) (ev : v ≡ get_or n.vars (get_or lists.rows.starts.now r 0) 0) (ea : a ≡ get_or f.coeffs (get_or lists.rows.starts.now r 0) nan)
     {l : ℕ} (lim : ReadsLimits s f r l x) (e₁ : blo ≡ lower_side (bare x) a) (e₂ : bhi ≡ upper_side (bare x) a) where
   single_is : {M : Model} {o : List ℕ} {k : ℕ} {w : Work} → Moves lists M → Call M s → Shows M f n o w → Inv M k w

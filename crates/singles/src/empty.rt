@@ -8,24 +8,24 @@ ghost use Rattle.view.specs.Known.{Written};
 ghost use Rattle.readers.specs.Reading.{row_of};
 
 use definition::{Infeasible, Rows};
-use space::Shape;
+use space::Context;
 
 // = empty_row_check
 pub fn empty_row_check(
     rows: Rows,
-    w: &[f64],
-    m: &mut [usize],
-    s: Shape,
+    floats: &[f64],
+    numbers: &mut [usize],
+    cx: Context,
     r: usize,
 ) -> Result<(), Infeasible>
-    requires r_lt_rows { (r < s.rows) × HoldsF s w.now × HoldsN s m.old }
-    requires ready { Ready (Written rows) s (floats_of s w.now) (numbers_of s m.old) }
-    ensures { Tries (Written rows.entry) s (floats_of s w.now) (numbers_of s m.old)
-        (floats_of s w.now) (numbers_of s m.new) result (λ M u. empty_row_check M r (row_of u r) u) }
+    requires r_lt_rows { (r < cx.rows) × HoldsF cx floats.now × HoldsN cx numbers.old }
+    requires ready { Ready (Written rows) cx (floats_of cx floats.now) (numbers_of cx numbers.old) }
+    ensures { Tries (Written rows.entry) cx (floats_of cx floats.now) (numbers_of cx numbers.old)
+        (floats_of cx floats.now) (numbers_of cx numbers.new) result (λ M u. empty_row_check M r (row_of u r) u) }
 {
-    if readers::empty_row_violated(rows, w, s, r) {
+    if readers::empty_row_violated(rows, floats, cx, r) {
         return Err(Infeasible);
     }
-    rows::drop_row(m, s, r);
+    rows::drop_row(numbers, cx, r);
     Ok(())
 }

@@ -6,7 +6,7 @@ use native.Mathlib.Omega.{arith}
 use Rattle.std.proofs.Math.ListN.{length-take, length-drop}
 use Rattle.std.proofs.Math.Seq.{get_or-set_same, get_or-set_other, drop-set-add, drop-set-lt, take-set-le, take-set-lt}
 use Rattle.std.specs.Float.Ieee.{nan}
-use Rattle.space.specs.declared.Shape.{Shape}
+use Rattle.space.specs.declared.Context.{Context}
 use Rattle.space.specs.Store.{blocks, start, nth, size, strand, strands_from, strands, put_in, fsizes, nsizes, to_floats, to_numbers, var_strands, row_strands}
 use Rattle.space.specs.Store.{mark_strands, alive_strands, floats_in, numbers_in, floats_of, numbers_of, HoldsF, HoldsN, put_wlo, put_whi, put_elo, put_ehi}
 use Rattle.space.specs.Store.{put_lo, put_hi, put_fold_scale, put_shift, put_written, put_rewritten, put_kept, put_bound, put_coeffs, put_queued}
@@ -126,7 +126,7 @@ module _ {A : Type 0} where
         let fits : w * i + k < length (nth g (blocks ns l)) = omega (arith, block_length g ns l hl) in
         rw (after, nth_put g (w * i + k) x (blocks ns l), same, strands_put d w n (nth g (blocks ns l)) i x k hk h fits)
 
-module _ (s : Shape) (l : List Float) (i : ℕ) where
+module _ (s : Context) (l : List Float) (i : ℕ) where
   -- a store to number k of variable i, and of row i
   variable_put : (k p : ℕ) (x : Float) → p ≡ 4 * i + k → k < 4 → i < s.vars → HoldsF s l → floats_of s (slice_set l p x)
       ≡ to_floats (put_in k i x (var_strands s (blocks (fsizes s) l))) (row_strands s (blocks (fsizes s) l)) (blocks (fsizes s) l)
@@ -264,7 +264,7 @@ module _ (s : Shape) (l : List Float) (i : ℕ) where
       let e : 4 * s.vars + 8 * s.rows + i ≡ start 6 (fsizes s) + i = omega arith in
       ap (λ (p : ℕ). floats_in s (blocks (fsizes s) (slice_set l p x))) e ∙ ap (floats_in s) (store 6 (fsizes s) l i x h)
 
-module _ (s : Shape) (l : List Float) (h : HoldsF s l) where
+module _ (s : Context) (l : List Float) (h : HoldsF s l) where
   pub wlo_length : length (floats_of s l).wlo ≡ s.vars
   unfolding floats_of floats_in to_floats strands_from strands nth
   wlo_length = strand_length nan 4 0 s.vars (nth 0 (blocks (fsizes s) l))
@@ -317,7 +317,7 @@ module _ (s : Shape) (l : List Float) (h : HoldsF s l) where
   unfolding floats_of floats_in to_floats fsizes nth size total
   coeffs_length = block_length 6 (fsizes s) l (omega arith)
 
-module _ (s : Shape) (l : List ℕ) (i : ℕ) where
+module _ (s : Context) (l : List ℕ) (i : ℕ) where
   -- a store to mark k of row i, dirty or coeff_dirty, and to its len or alive
   mark_put : (k p x : ℕ) → p ≡ 6 + 2 * i + k → k < 2 → i < s.rows → HoldsN s l → numbers_of s (slice_set l p x)
       ≡ to_numbers (put_in k i x (mark_strands s (blocks (nsizes s) l))) (alive_strands s (blocks (nsizes s) l)) (blocks (nsizes s) l)
@@ -567,7 +567,7 @@ module _ (s : Shape) (l : List ℕ) (i : ℕ) where
       let e : 6 + 10 * s.rows + 3 * s.vars + s.terms + i ≡ start 18 (nsizes s) + i = omega arith in
       ap (λ (p : ℕ). numbers_in s (blocks (nsizes s) (slice_set l p x))) e ∙ ap (numbers_in s) (store 18 (nsizes s) l i x h)
 
-module _ (s : Shape) (l : List ℕ) (h : HoldsN s l) where
+module _ (s : Context) (l : List ℕ) (h : HoldsN s l) where
   pub queued_length : length (numbers_of s l).queued ≡ 1
   unfolding numbers_of numbers_in to_numbers nsizes nth size total
   queued_length = block_length 0 (nsizes s) l (omega arith)

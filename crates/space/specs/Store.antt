@@ -2,7 +2,7 @@
 -- side is cut into strands, one for each of those numbers. docs/WORKSPACE.md has the layout.
 use Rattle.std.specs.Prelude.{ℕ, zero, suc, ◌+◌, ◌*◌, ◌≤◌, List, [], ◌∷◌, length, take, drop, slice_index_or, slice_set, Float}
 use Rattle.std.specs.Float.{nan}
-use Rattle.space.specs.declared.Shape.{Shape}
+use Rattle.space.specs.declared.Context.{Context}
 
 -- a list cut into blocks of the given lengths
 unfoldable pub blocks : {A : Type 0} → List ℕ → List A → List (List A)
@@ -45,12 +45,12 @@ put_in zero i x (b ∷ bs) = slice_set b i x ∷ bs
 put_in (suc k) i x (b ∷ bs) = b ∷ put_in k i x bs
 
 -- block 0: wlo, whi, elo, ehi of each variable; 1: lo, hi, fold_scale, shift of each row; 2 to 5: written, rewritten, kept, bound; 6: coeffs
-unfoldable pub fsizes : Shape → List ℕ
+unfoldable pub fsizes : Context → List ℕ
 fsizes s = (4 * s.vars) ∷ (4 * s.rows) ∷ s.rows ∷ s.rows ∷ s.rows ∷ s.rows ∷ s.terms ∷ []
 
 -- blocks 0 to 5: the single numbers; 6: dirty, coeff_dirty of each row; 7, 8: queue, wave; 9: len, alive of each row; 10 to 13: folded, touched,
 -- binaries, fate; 14 to 16: slot, bad_dec, bad_inc; 17, 18: vars, binary
-unfoldable pub nsizes : Shape → List ℕ
+unfoldable pub nsizes : Context → List ℕ
 nsizes s = (1) ∷ (1) ∷ (1) ∷ (1) ∷ (1) ∷ (1) ∷ (2 * s.rows) ∷ s.rows ∷ s.rows ∷ (2 * s.rows) ∷ s.rows ∷ s.rows ∷ s.rows ∷ s.rows ∷ s.vars
     ∷ s.vars ∷ s.vars ∷ s.terms ∷ s.terms ∷ []
 
@@ -138,28 +138,28 @@ to_numbers m a b = record {
   binary = nth 18 b;
 }
 
-abbrev pub var_strands : Shape → List (List Float) → List (List Float)
+abbrev pub var_strands : Context → List (List Float) → List (List Float)
 var_strands s b = strands nan 4 s.vars (nth 0 b)
 
-abbrev pub row_strands : Shape → List (List Float) → List (List Float)
+abbrev pub row_strands : Context → List (List Float) → List (List Float)
 row_strands s b = strands nan 4 s.rows (nth 1 b)
 
-abbrev pub mark_strands : Shape → List (List ℕ) → List (List ℕ)
+abbrev pub mark_strands : Context → List (List ℕ) → List (List ℕ)
 mark_strands s b = strands 0 2 s.rows (nth 6 b)
 
-abbrev pub alive_strands : Shape → List (List ℕ) → List (List ℕ)
+abbrev pub alive_strands : Context → List (List ℕ) → List (List ℕ)
 alive_strands s b = strands 0 2 s.rows (nth 9 b)
 
-unfoldable pub floats_in : Shape → List (List Float) → Floats
+unfoldable pub floats_in : Context → List (List Float) → Floats
 floats_in s b = to_floats (var_strands s b) (row_strands s b) b
 
-unfoldable pub numbers_in : Shape → List (List ℕ) → Numbers
+unfoldable pub numbers_in : Context → List (List ℕ) → Numbers
 numbers_in s b = to_numbers (mark_strands s b) (alive_strands s b) b
 
-unfoldable pub floats_of : Shape → List Float → Floats
+unfoldable pub floats_of : Context → List Float → Floats
 floats_of s l = floats_in s (blocks (fsizes s) l)
 
-unfoldable pub numbers_of : Shape → List ℕ → Numbers
+unfoldable pub numbers_of : Context → List ℕ → Numbers
 numbers_of s l = numbers_in s (blocks (nsizes s) l)
 
 abbrev pub put_wlo : ℕ → Float → Floats → Floats
@@ -909,8 +909,8 @@ put_binary i x f = record {
 }
 
 -- the slices are long enough
-abbrev pub HoldsF : Shape → List Float → Type 0
+abbrev pub HoldsF : Context → List Float → Type 0
 HoldsF s l = 4 * s.vars + 8 * s.rows + s.terms ≤ length l
 
-abbrev pub HoldsN : Shape → List ℕ → Type 0
+abbrev pub HoldsN : Context → List ℕ → Type 0
 HoldsN s l = 6 + 10 * s.rows + 3 * s.vars + 2 * s.terms ≤ length l

@@ -8,7 +8,7 @@ ghost use Rattle.std.specs.Float.{nan};
 ghost use Rattle.space.specs.Store.{floats_of, HoldsF, put_wlo, put_whi, put_elo, put_ehi, put_lo, put_hi, put_fold_scale, put_shift, put_written, put_rewritten, put_kept, put_bound, put_coeffs};
 ghost use Rattle.space.specs.Blocks.{bound_at, bound_put, coeffs_at, coeffs_put, ehi_at, ehi_put, elo_at, elo_put, fold_scale_at, fold_scale_put, hi_at, hi_put, kept_at, kept_put, lo_at, lo_put, rewritten_at_lem, rewritten_put, shift_at, shift_put, whi_at, whi_put, wlo_at, wlo_put, written_at, written_put};
 
-use crate::Shape;
+use crate::Context;
 use crate::field::Field;
 
 // Working lower bound of variable i.
@@ -29,7 +29,7 @@ impl Field for Wlo {
 
     ghost puts = { λ s w i x w'. floats_of s w' ≡ put_wlo i x (floats_of s w) };
 
-    fn place(_w: &[f64], _s: Shape, i: usize) -> usize {
+    fn place(_floats: &[f64], _cx: Context, i: usize) -> usize {
         4 * i
     }
 
@@ -58,7 +58,7 @@ impl Field for Whi {
 
     ghost puts = { λ s w i x w'. floats_of s w' ≡ put_whi i x (floats_of s w) };
 
-    fn place(_w: &[f64], _s: Shape, i: usize) -> usize {
+    fn place(_floats: &[f64], _cx: Context, i: usize) -> usize {
         4 * i + 1
     }
 
@@ -87,7 +87,7 @@ impl Field for Elo {
 
     ghost puts = { λ s w i x w'. floats_of s w' ≡ put_elo i x (floats_of s w) };
 
-    fn place(_w: &[f64], _s: Shape, i: usize) -> usize {
+    fn place(_floats: &[f64], _cx: Context, i: usize) -> usize {
         4 * i + 2
     }
 
@@ -116,7 +116,7 @@ impl Field for Ehi {
 
     ghost puts = { λ s w i x w'. floats_of s w' ≡ put_ehi i x (floats_of s w) };
 
-    fn place(_w: &[f64], _s: Shape, i: usize) -> usize {
+    fn place(_floats: &[f64], _cx: Context, i: usize) -> usize {
         4 * i + 3
     }
 
@@ -145,8 +145,8 @@ impl Field for Lo {
 
     ghost puts = { λ s w i x w'. floats_of s w' ≡ put_lo i x (floats_of s w) };
 
-    fn place(_w: &[f64], s: Shape, i: usize) -> usize {
-        4 * s.vars + 4 * i
+    fn place(_floats: &[f64], cx: Context, i: usize) -> usize {
+        4 * cx.vars + 4 * i
     }
 
     ghost within = { λ s w i h k. omega (arith, h, k) };
@@ -174,8 +174,8 @@ impl Field for Hi {
 
     ghost puts = { λ s w i x w'. floats_of s w' ≡ put_hi i x (floats_of s w) };
 
-    fn place(_w: &[f64], s: Shape, i: usize) -> usize {
-        4 * s.vars + 4 * i + 1
+    fn place(_floats: &[f64], cx: Context, i: usize) -> usize {
+        4 * cx.vars + 4 * i + 1
     }
 
     ghost within = { λ s w i h k. omega (arith, h, k) };
@@ -203,8 +203,8 @@ impl Field for FoldScale {
 
     ghost puts = { λ s w i x w'. floats_of s w' ≡ put_fold_scale i x (floats_of s w) };
 
-    fn place(_w: &[f64], s: Shape, i: usize) -> usize {
-        4 * s.vars + 4 * i + 2
+    fn place(_floats: &[f64], cx: Context, i: usize) -> usize {
+        4 * cx.vars + 4 * i + 2
     }
 
     ghost within = { λ s w i h k. omega (arith, h, k) };
@@ -232,8 +232,8 @@ impl Field for Shift {
 
     ghost puts = { λ s w i x w'. floats_of s w' ≡ put_shift i x (floats_of s w) };
 
-    fn place(_w: &[f64], s: Shape, i: usize) -> usize {
-        4 * s.vars + 4 * i + 3
+    fn place(_floats: &[f64], cx: Context, i: usize) -> usize {
+        4 * cx.vars + 4 * i + 3
     }
 
     ghost within = { λ s w i h k. omega (arith, h, k) };
@@ -261,8 +261,8 @@ impl Field for Written {
 
     ghost puts = { λ s w i x w'. floats_of s w' ≡ put_written i x (floats_of s w) };
 
-    fn place(_w: &[f64], s: Shape, i: usize) -> usize {
-        4 * s.vars + 4 * s.rows + i
+    fn place(_floats: &[f64], cx: Context, i: usize) -> usize {
+        4 * cx.vars + 4 * cx.rows + i
     }
 
     ghost within = { λ s w i h k. omega (arith, h, k) };
@@ -290,8 +290,8 @@ impl Field for Rewritten {
 
     ghost puts = { λ s w i x w'. floats_of s w' ≡ put_rewritten i x (floats_of s w) };
 
-    fn place(_w: &[f64], s: Shape, i: usize) -> usize {
-        4 * s.vars + 5 * s.rows + i
+    fn place(_floats: &[f64], cx: Context, i: usize) -> usize {
+        4 * cx.vars + 5 * cx.rows + i
     }
 
     ghost within = { λ s w i h k. omega (arith, h, k) };
@@ -319,8 +319,8 @@ impl Field for Kept {
 
     ghost puts = { λ s w i x w'. floats_of s w' ≡ put_kept i x (floats_of s w) };
 
-    fn place(_w: &[f64], s: Shape, i: usize) -> usize {
-        4 * s.vars + 6 * s.rows + i
+    fn place(_floats: &[f64], cx: Context, i: usize) -> usize {
+        4 * cx.vars + 6 * cx.rows + i
     }
 
     ghost within = { λ s w i h k. omega (arith, h, k) };
@@ -348,8 +348,8 @@ impl Field for Bound {
 
     ghost puts = { λ s w i x w'. floats_of s w' ≡ put_bound i x (floats_of s w) };
 
-    fn place(_w: &[f64], s: Shape, i: usize) -> usize {
-        4 * s.vars + 7 * s.rows + i
+    fn place(_floats: &[f64], cx: Context, i: usize) -> usize {
+        4 * cx.vars + 7 * cx.rows + i
     }
 
     ghost within = { λ s w i h k. omega (arith, h, k) };
@@ -377,8 +377,8 @@ impl Field for Coeffs {
 
     ghost puts = { λ s w i x w'. floats_of s w' ≡ put_coeffs i x (floats_of s w) };
 
-    fn place(_w: &[f64], s: Shape, i: usize) -> usize {
-        4 * s.vars + 8 * s.rows + i
+    fn place(_floats: &[f64], cx: Context, i: usize) -> usize {
+        4 * cx.vars + 8 * cx.rows + i
     }
 
     ghost within = { λ s w i h k. omega (arith, h, k) };

@@ -19,17 +19,17 @@ pub use numbers::{
 
 // What every function has of the call: how many variables, rows and terms, whether the mode is a
 // Mip, which is all that a step asks of it, and the feasibility tolerance.
-// The two slices and the shape stay three parameters: a struct that lent both would have to promise in
-// each contract that the slices and the shape are the same after the call, as `output` does with
+// The two slices and the context stay three parameters: a struct that lent both would have to promise in
+// each contract that the slices and the context are the same after the call, as `output` does with
 // SameSlices, and a function that changes one of them alone could not say so in its type. So that the slices
 // are long enough (HoldsF, HoldsN) is a clause of each function too: as a struct's invariant it would be that other
 // clause. That a row is alive is a fact of the state and not of the row's number, and that a number is below
-// s.rows or s.vars is one of the number and the shape: neither has a type of its own. So are all the facts that
+// cx.rows or cx.vars is one of the number and the context: neither has a type of its own. So are all the facts that
 // many functions ask for facts of several parameters at once, as that the slices show a state of the definition
 // (`Ready`, `Standing`), each a predicate with a name, or that a number is below a length or a length is another: a
 // comparison says that as shortly as a name would. Each is a clause.
 #[derive(Clone, Copy)]
-pub struct Shape {
+pub struct Context {
     pub vars: usize,
     pub rows: usize,
     pub terms: usize,

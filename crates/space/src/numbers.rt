@@ -8,7 +8,7 @@ ghost use Rattle.std.specs.Prelude.{◌≡◌, ◌+◌, ◌*◌, slice_index};
 ghost use Rattle.space.specs.Store.{numbers_of, HoldsN, put_queued, put_dropped, put_tightened, put_fixed, put_rewrote, put_passes, put_dirty, put_coeff_dirty, put_queue, put_wave, put_len, put_folded, put_alive, put_touched, put_binaries, put_fate, put_slot, put_bad_dec, put_bad_inc, put_vars, put_binary};
 ghost use Rattle.space.specs.Blocks.{alive_at_lem, alive_put, bad_dec_at, bad_dec_put, bad_inc_at, bad_inc_put, binaries_at, binaries_put, binary_at_lem, binary_put, coeff_dirty_at, coeff_dirty_put, dirty_at, dirty_put, dropped_at, dropped_put, fate_at, fate_put, fixed_at_lem, fixed_put, folded_at, folded_put, len_at, len_put, passes_at, passes_put, queue_at, queue_put, queued_at, queued_put, rewrote_at, rewrote_put, slot_at, slot_put, tightened_at, tightened_put, touched_at, touched_put, vars_at, vars_put, wave_at, wave_put};
 
-use crate::Shape;
+use crate::Context;
 use crate::field::Field;
 
 // How many rows are queued for the next wave.
@@ -29,7 +29,7 @@ impl Field for Queued {
 
     ghost puts = { λ s m i x m'. numbers_of s m' ≡ put_queued i x (numbers_of s m) };
 
-    fn place(_m: &[usize], _s: Shape, i: usize) -> usize {
+    fn place(_numbers: &[usize], _cx: Context, i: usize) -> usize {
         i
     }
 
@@ -58,7 +58,7 @@ impl Field for Dropped {
 
     ghost puts = { λ s m i x m'. numbers_of s m' ≡ put_dropped i x (numbers_of s m) };
 
-    fn place(_m: &[usize], _s: Shape, i: usize) -> usize {
+    fn place(_numbers: &[usize], _cx: Context, i: usize) -> usize {
         1 + i
     }
 
@@ -87,7 +87,7 @@ impl Field for Tightened {
 
     ghost puts = { λ s m i x m'. numbers_of s m' ≡ put_tightened i x (numbers_of s m) };
 
-    fn place(_m: &[usize], _s: Shape, i: usize) -> usize {
+    fn place(_numbers: &[usize], _cx: Context, i: usize) -> usize {
         2 + i
     }
 
@@ -116,7 +116,7 @@ impl Field for Fixed {
 
     ghost puts = { λ s m i x m'. numbers_of s m' ≡ put_fixed i x (numbers_of s m) };
 
-    fn place(_m: &[usize], _s: Shape, i: usize) -> usize {
+    fn place(_numbers: &[usize], _cx: Context, i: usize) -> usize {
         3 + i
     }
 
@@ -145,7 +145,7 @@ impl Field for Rewrote {
 
     ghost puts = { λ s m i x m'. numbers_of s m' ≡ put_rewrote i x (numbers_of s m) };
 
-    fn place(_m: &[usize], _s: Shape, i: usize) -> usize {
+    fn place(_numbers: &[usize], _cx: Context, i: usize) -> usize {
         4 + i
     }
 
@@ -174,7 +174,7 @@ impl Field for Passes {
 
     ghost puts = { λ s m i x m'. numbers_of s m' ≡ put_passes i x (numbers_of s m) };
 
-    fn place(_m: &[usize], _s: Shape, i: usize) -> usize {
+    fn place(_numbers: &[usize], _cx: Context, i: usize) -> usize {
         5 + i
     }
 
@@ -203,7 +203,7 @@ impl Field for Dirty {
 
     ghost puts = { λ s m i x m'. numbers_of s m' ≡ put_dirty i x (numbers_of s m) };
 
-    fn place(_m: &[usize], _s: Shape, i: usize) -> usize {
+    fn place(_numbers: &[usize], _cx: Context, i: usize) -> usize {
         6 + 2 * i
     }
 
@@ -232,7 +232,7 @@ impl Field for CoeffDirty {
 
     ghost puts = { λ s m i x m'. numbers_of s m' ≡ put_coeff_dirty i x (numbers_of s m) };
 
-    fn place(_m: &[usize], _s: Shape, i: usize) -> usize {
+    fn place(_numbers: &[usize], _cx: Context, i: usize) -> usize {
         6 + 2 * i + 1
     }
 
@@ -261,8 +261,8 @@ impl Field for Queue {
 
     ghost puts = { λ s m i x m'. numbers_of s m' ≡ put_queue i x (numbers_of s m) };
 
-    fn place(_m: &[usize], s: Shape, i: usize) -> usize {
-        6 + 2 * s.rows + i
+    fn place(_numbers: &[usize], cx: Context, i: usize) -> usize {
+        6 + 2 * cx.rows + i
     }
 
     ghost within = { λ s m i h k. omega (arith, h, k) };
@@ -290,8 +290,8 @@ impl Field for Wave {
 
     ghost puts = { λ s m i x m'. numbers_of s m' ≡ put_wave i x (numbers_of s m) };
 
-    fn place(_m: &[usize], s: Shape, i: usize) -> usize {
-        6 + 3 * s.rows + i
+    fn place(_numbers: &[usize], cx: Context, i: usize) -> usize {
+        6 + 3 * cx.rows + i
     }
 
     ghost within = { λ s m i h k. omega (arith, h, k) };
@@ -319,8 +319,8 @@ impl Field for Len {
 
     ghost puts = { λ s m i x m'. numbers_of s m' ≡ put_len i x (numbers_of s m) };
 
-    fn place(_m: &[usize], s: Shape, i: usize) -> usize {
-        6 + 4 * s.rows + 2 * i
+    fn place(_numbers: &[usize], cx: Context, i: usize) -> usize {
+        6 + 4 * cx.rows + 2 * i
     }
 
     ghost within = { λ s m i h k. omega (arith, h, k) };
@@ -348,8 +348,8 @@ impl Field for Folded {
 
     ghost puts = { λ s m i x m'. numbers_of s m' ≡ put_folded i x (numbers_of s m) };
 
-    fn place(_m: &[usize], s: Shape, i: usize) -> usize {
-        6 + 6 * s.rows + i
+    fn place(_numbers: &[usize], cx: Context, i: usize) -> usize {
+        6 + 6 * cx.rows + i
     }
 
     ghost within = { λ s m i h k. omega (arith, h, k) };
@@ -377,8 +377,8 @@ impl Field for Alive {
 
     ghost puts = { λ s m i x m'. numbers_of s m' ≡ put_alive i x (numbers_of s m) };
 
-    fn place(_m: &[usize], s: Shape, i: usize) -> usize {
-        6 + 4 * s.rows + 2 * i + 1
+    fn place(_numbers: &[usize], cx: Context, i: usize) -> usize {
+        6 + 4 * cx.rows + 2 * i + 1
     }
 
     ghost within = { λ s m i h k. omega (arith, h, k) };
@@ -406,8 +406,8 @@ impl Field for Touched {
 
     ghost puts = { λ s m i x m'. numbers_of s m' ≡ put_touched i x (numbers_of s m) };
 
-    fn place(_m: &[usize], s: Shape, i: usize) -> usize {
-        6 + 7 * s.rows + i
+    fn place(_numbers: &[usize], cx: Context, i: usize) -> usize {
+        6 + 7 * cx.rows + i
     }
 
     ghost within = { λ s m i h k. omega (arith, h, k) };
@@ -435,8 +435,8 @@ impl Field for Binaries {
 
     ghost puts = { λ s m i x m'. numbers_of s m' ≡ put_binaries i x (numbers_of s m) };
 
-    fn place(_m: &[usize], s: Shape, i: usize) -> usize {
-        6 + 8 * s.rows + i
+    fn place(_numbers: &[usize], cx: Context, i: usize) -> usize {
+        6 + 8 * cx.rows + i
     }
 
     ghost within = { λ s m i h k. omega (arith, h, k) };
@@ -464,8 +464,8 @@ impl Field for Fate {
 
     ghost puts = { λ s m i x m'. numbers_of s m' ≡ put_fate i x (numbers_of s m) };
 
-    fn place(_m: &[usize], s: Shape, i: usize) -> usize {
-        6 + 9 * s.rows + i
+    fn place(_numbers: &[usize], cx: Context, i: usize) -> usize {
+        6 + 9 * cx.rows + i
     }
 
     ghost within = { λ s m i h k. omega (arith, h, k) };
@@ -493,8 +493,8 @@ impl Field for Slot {
 
     ghost puts = { λ s m i x m'. numbers_of s m' ≡ put_slot i x (numbers_of s m) };
 
-    fn place(_m: &[usize], s: Shape, i: usize) -> usize {
-        6 + 10 * s.rows + i
+    fn place(_numbers: &[usize], cx: Context, i: usize) -> usize {
+        6 + 10 * cx.rows + i
     }
 
     ghost within = { λ s m i h k. omega (arith, h, k) };
@@ -522,8 +522,8 @@ impl Field for BadDec {
 
     ghost puts = { λ s m i x m'. numbers_of s m' ≡ put_bad_dec i x (numbers_of s m) };
 
-    fn place(_m: &[usize], s: Shape, i: usize) -> usize {
-        6 + 10 * s.rows + s.vars + i
+    fn place(_numbers: &[usize], cx: Context, i: usize) -> usize {
+        6 + 10 * cx.rows + cx.vars + i
     }
 
     ghost within = { λ s m i h k. omega (arith, h, k) };
@@ -551,8 +551,8 @@ impl Field for BadInc {
 
     ghost puts = { λ s m i x m'. numbers_of s m' ≡ put_bad_inc i x (numbers_of s m) };
 
-    fn place(_m: &[usize], s: Shape, i: usize) -> usize {
-        6 + 10 * s.rows + 2 * s.vars + i
+    fn place(_numbers: &[usize], cx: Context, i: usize) -> usize {
+        6 + 10 * cx.rows + 2 * cx.vars + i
     }
 
     ghost within = { λ s m i h k. omega (arith, h, k) };
@@ -580,8 +580,8 @@ impl Field for Vars {
 
     ghost puts = { λ s m i x m'. numbers_of s m' ≡ put_vars i x (numbers_of s m) };
 
-    fn place(_m: &[usize], s: Shape, i: usize) -> usize {
-        6 + 10 * s.rows + 3 * s.vars + i
+    fn place(_numbers: &[usize], cx: Context, i: usize) -> usize {
+        6 + 10 * cx.rows + 3 * cx.vars + i
     }
 
     ghost within = { λ s m i h k. omega (arith, h, k) };
@@ -609,8 +609,8 @@ impl Field for Binary {
 
     ghost puts = { λ s m i x m'. numbers_of s m' ≡ put_binary i x (numbers_of s m) };
 
-    fn place(_m: &[usize], s: Shape, i: usize) -> usize {
-        6 + 10 * s.rows + 3 * s.vars + s.terms + i
+    fn place(_numbers: &[usize], cx: Context, i: usize) -> usize {
+        6 + 10 * cx.rows + 3 * cx.vars + cx.terms + i
     }
 
     ghost within = { λ s m i h k. omega (arith, h, k) };

@@ -7,7 +7,7 @@ use Rattle.definition.specs.declared.Counts.{Counts}
 use Rattle.definition.specs.Params.{Params, max_waves}
 use Rattle.definition.specs.Model.{Model, upto, nnz, Reduced, Answer, infeasible, done}
 use Rattle.definition.specs.Presolve.{presolve}
-use Rattle.space.specs.declared.Shape.{Shape}
+use Rattle.space.specs.declared.Context.{Context}
 use Rattle.view.specs.Call.{Call}
 use Rattle.view.specs.Shows.{Tally}
 use Rattle.tally.specs.Tallied.{AtMost}
@@ -26,7 +26,7 @@ pub data Fits : Answer → Type 0 where
   done_fits : {x : Reduced} → CountsFit x.counts → Fits (done x)
 
 -- ---- a row of an accepted call has no more terms than the call
-all_short : {M : Model} {s : Shape} → Call M s → AllShort M
+all_short : {M : Model} {s : Context} → Call M s → AllShort M
 unfolding nnz upto
 all_short {M} c r =
     elim (dec_lt r (length M.rhs)) [
@@ -34,10 +34,10 @@ all_short {M} c r =
       | no h ↦ (let z : get_or M.starts (r + 1) 0 ≡ 0 = get_or-eq_default M.starts 0 (omega (arith, c.starts)) in omega arith)
     ]
 
-waves_30 : {M : Model} {s : Shape} → Call M s → max_waves M.params ≤ 30
+waves_30 : {M : Model} {s : Context} → Call M s → max_waves M.params ≤ 30
 waves_30 c = subst (λ (p : Params). max_waves p ≤ 30) (sym c.params) (omega arith)
 
-rounds_3 : {M : Model} {s : Shape} → Call M s → M.params.max_rounds ≤ 3
+rounds_3 : {M : Model} {s : Context} → Call M s → M.params.max_rounds ≤ 3
 rounds_3 c = subst (λ (p : Params). p.max_rounds ≤ 3) (sym c.params) (omega arith)
 
 counts_are : {c : Counts} → AtMost in_all c → CountsFit c
@@ -47,7 +47,7 @@ fits : {a : Answer} → AnswerAtMost in_all a → Fits a
 fits (gave_up p) = infeasible_fits (counts_are p)
 fits (found p) = done_fits (counts_are p)
 
-pub counts_fit : (M : Model) (s : Shape) → Call M s → Fits (presolve M)
+pub counts_fit : (M : Model) (s : Context) → Call M s → Fits (presolve M)
 counts_fit M s c = fits (whole M (all_short c) c.max_rows c.max_vars (waves_30 c) (rounds_3 c))
 
 -- as it is used, of an answer at hand

@@ -6,7 +6,7 @@ use Rattle.std.proofs.Math.Bool.{false}
 use Rattle.definition.specs.Model.{Model}
 use Rattle.definition.specs.Work.{Work}
 use Rattle.definition.specs.Tighten.{tighten_row, tighten_from, tighten_binary_coeffs}
-use Rattle.space.specs.declared.Shape.{Shape}
+use Rattle.space.specs.declared.Context.{Context}
 use Rattle.space.specs.Store.{Floats, Numbers}
 use Rattle.view.specs.Call.{Call}
 use Rattle.view.specs.Shows.{Shows}
@@ -16,7 +16,7 @@ use Rattle.view.specs.Changes.{ActsBool, KeepsBool, ready_changed}
 use Rattle.tighten.specs.Rows.{row_before, inv_tighten_row, row_keeps}
 
 -- ---- it keeps the invariant
-module _ {M : Model} {s : Shape} {k : ℕ} (c : Call M s) where
+module _ {M : Model} {s : Context} {k : ℕ} (c : Call M s) where
   inv_from : (j r : ℕ) (w : Work) (changed : Bool) → r + j ≤ length M.rhs → Inv M k w → Inv M k (tighten_from M j r w changed).0
   unfolding tighten_from
   inv_from zero r w changed l i = i
@@ -26,7 +26,7 @@ module _ {M : Model} {s : Shape} {k : ℕ} (c : Call M s) where
   unfolding tighten_binary_coeffs
   inv_tighten w i = inv_from (length w.rows) 0 w false (omega (arith, i.rowses)) i
 
-pub tighten_keeps : {P : Model → Type 0} {s : Shape} → KeepsBool P s (λ M. tighten_binary_coeffs M)
+pub tighten_keeps : {P : Model → Type 0} {s : Context} → KeepsBool P s (λ M. tighten_binary_coeffs M)
 tighten_keeps = record { keeps = λ M k w p c i. inv_tighten c w i }
 
 -- ---- what is left from row r on
@@ -42,18 +42,18 @@ all_is : (M : Model) (w : Work) → tighten_from M (length w.rows) 0 w false ≡
 unfolding tighten_binary_coeffs
 all_is M w = refl
 
-pub record LeftAll (M : Model) (s : Shape) (f : Floats) (n : Numbers) (o : List ℕ) (k r : ℕ) (changed : Bool) (whole : Work × Bool) : Type 0 where
+pub record LeftAll (M : Model) (s : Context) (f : Floats) (n : Numbers) (o : List ℕ) (k r : ℕ) (changed : Bool) (whole : Work × Bool) : Type 0 where
   pub work : Work
   pub shows : Shows M f n o work
   pub inv : Inv M k work
   pub rest : tighten_from M (s.rows - r) r work changed ≡ whole
 
-pub record AtRow (P : Model → Type 0) (s : Shape) (r : ℕ) (changed : Bool) (f₀ : Floats) (n₀ : Numbers) (f : Floats) (n : Numbers) : Type 0 where
+pub record AtRow (P : Model → Type 0) (s : Context) (r : ℕ) (changed : Bool) (f₀ : Floats) (n₀ : Numbers) (f : Floats) (n : Numbers) : Type 0 where
   pub upto : r ≤ s.rows
   pub ready : Ready P s f n
   pub left : (M : Model) (o : List ℕ) (k : ℕ) (w : Work) → P M → Call M s → Shows M f₀ n₀ o w → Inv M k w → LeftAll M s f n o k r changed (tighten_binary_coeffs M w)
 
-pub all_start : {P : Model → Type 0} {s : Shape} {f : Floats} {n : Numbers} → Ready P s f n → AtRow P s 0 false f n f n
+pub all_start : {P : Model → Type 0} {s : Context} {f : Floats} {n : Numbers} → Ready P s f n → AtRow P s 0 false f n f n
 all_start {s = s} R =
     record {
       upto = omega arith;
@@ -66,7 +66,7 @@ all_start {s = s} R =
       };
     }
 
-module _ {P : Model → Type 0} {s : Shape} {r : ℕ} {changed : Bool} {f₀ f : Floats} {n₀ n : Numbers} (A : AtRow P s r changed f₀ n₀ f n) where
+module _ {P : Model → Type 0} {s : Context} {r : ℕ} {changed : Bool} {f₀ f : Floats} {n₀ n : Numbers} (A : AtRow P s r changed f₀ n₀ f n) where
   pub all_turn : {f' : Floats} {n' : Numbers} {z : Bool} → r < s.rows → ActsBool P s f n f' n' z (λ M w. tighten_row M r w false) → AtRow P s (r + 1) (changed || z) f₀ n₀ f' n'
   all_turn p a =
       record {

@@ -5,7 +5,7 @@ use Rattle.definition.specs.declared.Activity.{Activity}
 use Rattle.definition.specs.Model.{Model}
 use Rattle.definition.specs.Work.{Work}
 use Rattle.definition.specs.Tighten.{Rewriting}
-use Rattle.space.specs.declared.Shape.{Shape}
+use Rattle.space.specs.declared.Context.{Context}
 use Rattle.space.specs.Store.{Floats, Numbers}
 use Rattle.view.specs.Call.{Call}
 use Rattle.view.specs.Shows.{Shows}
@@ -51,7 +51,7 @@ abbrev pub carried : ℕ → Progress → Work → Rewriting
 carried r x w = record { row = row_of w r; act = x.act; work = w; changed = x.changed; broke = x.broke }
 
 -- whatever state the slices show, they show F's after with its row stored, and the result is the rest of F's
-pub record Carries (P : Model → Type 0) (s : Shape) (r : ℕ) (f : Floats) (n : Numbers) (f' : Floats) (n' : Numbers) (z : Progress) (F : Model → Work → Rewriting) : Type 0 where
+pub record Carries (P : Model → Type 0) (s : Context) (r : ℕ) (f : Floats) (n : Numbers) (f' : Floats) (n' : Numbers) (z : Progress) (F : Model → Work → Rewriting) : Type 0 where
   pub does : (M : Model) (o : List ℕ) (k : ℕ) (w : Work) → P M → Call M s → Shows M f n o w → Inv M k w → Shows M f' n' o (shown r (F M w))
   pub says : (M : Model) (o : List ℕ) (k : ℕ) (w : Work) → P M → Call M s → Shows M f n o w → Inv M k w → progress_of (F M w) ≡ z
 
@@ -59,13 +59,13 @@ pub not_some : {A : Type 0} (y : Option A) → ((z : A) → y ≡ Some z → ⊥
 not_some None h = refl
 not_some (Some z) h = absurd (h z refl)
 
-module _ {P : Model → Type 0} {s : Shape} {r : ℕ} {f f' : Floats} {n n' : Numbers} (old : Activity) {F : Model → Work → Rewriting} {y : Option code.Progress} where
+module _ {P : Model → Type 0} {s : Context} {r : ℕ} {f f' : Floats} {n n' : Numbers} (old : Activity) {F : Model → Work → Rewriting} {y : Option code.Progress} where
   pub carries_some : {z : code.Progress} → y ≡ Some z → Carries P s r f n f' n' (progressed old y) F → Carries P s r f n f' n' (going z) F
   carries_some e t = subst (λ (u : Option code.Progress). Carries P s r f n f' n' (progressed old u) F) e t
 
   pub carries_none : y ≡ None → Carries P s r f n f' n' (progressed old y) F → Carries P s r f n f' n' (left_at old) F
   carries_none e t = subst (λ (u : Option code.Progress). Carries P s r f n f' n' (progressed old u) F) e t
 
-module _ {P : Model → Type 0} {s : Shape} {r : ℕ} {f f' : Floats} {n n' : Numbers} {F : Model → Work → Rewriting} where
+module _ {P : Model → Type 0} {s : Context} {r : ℕ} {f f' : Floats} {n n' : Numbers} {F : Model → Work → Rewriting} where
   pub carries_left : (b : Bool) {old : Activity} → Carries P s r f n f' n' (or_before b (left_at old)) F → Carries P s r f n f' n' (left_at old) F
   carries_left b {old} t = subst (λ (z : Progress). Carries P s r f n f' n' z F) (left_before b old) t

@@ -3,7 +3,7 @@ use Rattle.std.specs.Prelude.{ℕ, ◌+◌, ◌%◌, ◌^◌, ◌≡◌, false, 
 use Rattle.std.proofs.Common.{arith, ◌∙◌, get_or-set_same}
 use Rattle.definition.specs.Model.{Model, rewrote}
 use Rattle.definition.specs.Work.{Work, with_counts}
-use Rattle.space.specs.declared.Shape.{Shape}
+use Rattle.space.specs.declared.Context.{Context}
 use Rattle.space.specs.Store.{Numbers, put_rewrote, put_coeff_dirty}
 use Rattle.view.specs.Inv.{Inv}
 use Rattle.view.specs.Acts.{ActsN, Keeps}
@@ -28,7 +28,7 @@ inv_rewrote w i = record {
   rows = i.rows;
 }
 
-pub rewrote_acts : {P : Model → Type 0} {s : Shape} {n n' : Numbers} → length n.rewrote ≡ 1 → n' ≡ put_rewrote 0 ((get_or n.rewrote 0 0 + 1) % 2 ^ 64) n → ActsN P s n n' (λ M. count_rewrote)
+pub rewrote_acts : {P : Model → Type 0} {s : Context} {n n' : Numbers} → length n.rewrote ≡ 1 → n' ≡ put_rewrote 0 ((get_or n.rewrote 0 0 + 1) % 2 ^ 64) n → ActsN P s n n' (λ M. count_rewrote)
 rewrote_acts {n = n} l e =
     record {
       does = λ M f o k w p c h i.
@@ -57,8 +57,8 @@ looked r = flagged false r
 pub inv_looked : {M : Model} {k : ℕ} (r : ℕ) (w : Work) → Inv M k w → Inv M k (looked r w)
 inv_looked = inv_flagged false
 
-pub looked_keeps : {P : Model → Type 0} {s : Shape} (r : ℕ) → Keeps P s (λ M. looked r)
+pub looked_keeps : {P : Model → Type 0} {s : Context} (r : ℕ) → Keeps P s (λ M. looked r)
 looked_keeps = flagged_keeps false
 
-pub looked_acts : {P : Model → Type 0} {s : Shape} {n n' : Numbers} (r : ℕ) → n' ≡ put_coeff_dirty r 0 n → ActsN P s n n' (λ M. looked r)
+pub looked_acts : {P : Model → Type 0} {s : Context} {n n' : Numbers} (r : ℕ) → n' ≡ put_coeff_dirty r 0 n → ActsN P s n n' (λ M. looked r)
 looked_acts r = flagged_acts r 0 zero_is

@@ -11,7 +11,7 @@ use Rattle.definition.specs.Work.{Work}
 use Rattle.definition.specs.Folds.{gives_back, given_back, hold_rewrites}
 use Rattle.definition.specs.Rewrites.{Form, le_form, ge_form, no_form, Rewrite, keeps, coeff_only, coeff_bound, rewrites}
 use Rattle.definition.specs.Tighten.{Rewriting, set_coeff, queued, rebound_row, row_after, rewrite_step, rewrite_loop}
-use Rattle.space.specs.declared.Shape.{Shape}
+use Rattle.space.specs.declared.Context.{Context}
 use Rattle.view.specs.Call.{Call}
 use Rattle.view.specs.Inv.{RowInv, Inv}
 use Rattle.view.specs.Lists.{yes, either}
@@ -42,7 +42,7 @@ pub touched_inv : {M : Model} {r : ℕ} (x : Row) → RowInv M r x → RowInv M 
 touched_inv x n = record { distinct = n.distinct; all_in = n.all_in; binaries = binding_by (λ v h. h) n.binaries }
 
 -- ---- a row given back
-module _ {M : Model} {s : Shape} (c : Call M s) (r : ℕ) (p : r < length M.rhs) (w : Work) (x : Row) (e : gives_back x ≡ true) where
+module _ {M : Model} {s : Context} (c : Call M s) (r : ℕ) (p : r < length M.rhs) (w : Work) (x : Row) (e : gives_back x ≡ true) where
   pub given_is : hold_rewrites M r w x ≡ given_back M r w
   unfolding hold_rewrites
   given_is = yes _ _ e
@@ -59,7 +59,7 @@ pub record Good (M : Model) (k r : ℕ) (x : Rewriting) : Type 0 where
 pub good_shown : {M : Model} {k : ℕ} (r : ℕ) (x : Rewriting) → Good M k r x → Inv M k (shown r x)
 good_shown r x g = inv_row r x.row x.work g.inv (λ _. g.row)
 
-module _ {M : Model} {s : Shape} {k : ℕ} (c : Call M s) (r : ℕ) (p : r < length M.rhs) where
+module _ {M : Model} {s : Context} {k : ℕ} (c : Call M s) (r : ℕ) (p : r < length M.rhs) where
   ended_good : (row : Row) (old act : Activity) (w : Work) → Inv M k w → row.alive ≡ true → RowInv M r row → Good M k r (ended M r row old act w)
   ended_good row old act w i a n =
       either (Good M k r) (gives_back row)
@@ -109,7 +109,7 @@ module _ (M : Model) (f : Form) (nz : Float) (r : ℕ) where
   loop_broke zero i x e = refl
   loop_broke (suc n) i x e = ap (rewrite_loop M n f nz r (suc i)) (step_broke i x e) ∙ loop_broke n (suc i) x e
 
-module _ {M : Model} {s : Shape} {k : ℕ} (c : Call M s) (r : ℕ) (p : r < length M.rhs) (f : Form) (nz : Float) where
+module _ {M : Model} {s : Context} {k : ℕ} (c : Call M s) (r : ℕ) (p : r < length M.rhs) (f : Form) (nz : Float) where
   pub loop_good : (n i : ℕ) (x : Rewriting) → (x.broke ≡ false → i + n ≤ length x.row.terms) → Good M k r x → Good M k r (rewrite_loop M n f nz r i x)
   unfolding rewrite_loop
   loop_good zero i x l g = g

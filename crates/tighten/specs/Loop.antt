@@ -6,7 +6,7 @@ use Rattle.definition.specs.Model.{Model, Row}
 use Rattle.definition.specs.Work.{Work}
 use Rattle.definition.specs.Rewrites.{Form}
 use Rattle.definition.specs.Tighten.{Rewriting, rewrite_step, rewrite_loop}
-use Rattle.space.specs.declared.Shape.{Shape}
+use Rattle.space.specs.declared.Context.{Context}
 use Rattle.space.specs.Store.{Floats, Numbers}
 use Rattle.view.specs.Call.{Call}
 use Rattle.view.specs.Shows.{Shows}
@@ -47,7 +47,7 @@ pub record LeftRow (M : Model) (f : Floats) (n : Numbers) (o : List ℕ) (k : �
   pub inv : Inv M k work
   pub rest : closed r (rewrite_loop M (len - i) form nz r i (carried r x work)) ≡ whole
 
-pub record AtTerm (P : Model → Type 0) (s : Shape) (form : Form) (nz : Float) (r len i : ℕ) (x₀ x : Progress) (f₀ : Floats) (n₀ : Numbers) (f : Floats) (n : Numbers) : Type 0 where
+pub record AtTerm (P : Model → Type 0) (s : Context) (form : Form) (nz : Float) (r len i : ℕ) (x₀ x : Progress) (f₀ : Floats) (n₀ : Numbers) (f : Floats) (n : Numbers) : Type 0 where
   pub upto : i ≤ len
   pub goes : x.broke ≡ false
   pub first : len ≡ get_or n₀.len r 0
@@ -58,7 +58,7 @@ pub record AtTerm (P : Model → Type 0) (s : Shape) (form : Form) (nz : Float) 
   pub left : (M : Model) (o : List ℕ) (k : ℕ) (w : Work) → P M → Call M s → Shows M f₀ n₀ o w → Inv M k w
       → LeftRow M f n o k form nz r len i x (closed r (rewrite_loop M len form nz r 0 (carried r x₀ w)))
 
-pub at_start : {P : Model → Type 0} {s : Shape} (form : Form) (nz : Float) (r : ℕ) {len : ℕ} {x : Progress} {f : Floats} {n : Numbers} → len ≡ get_or n.len r 0
+pub at_start : {P : Model → Type 0} {s : Context} (form : Form) (nz : Float) (r : ℕ) {len : ℕ} {x : Progress} {f : Floats} {n : Numbers} → len ≡ get_or n.len r 0
     → Alive n r → x.broke ≡ false → Ready P s f n → AtTerm P s form nz r len 0 x x f n f n
 at_start form nz r {len} {x} e a b R =
     record {
@@ -76,7 +76,7 @@ at_start form nz r {len} {x} e a b R =
 abbrev pub loop_at : Form → Float → ℕ → Progress → Model → Work → Work × Bool
 loop_at form nz r x M w = closed r (rewrite_loop M (length (row_of w r).terms) form nz r 0 (carried r x w))
 
-module _ {P : Model → Type 0} {s : Shape} {form : Form} {nz : Float} {r len i : ℕ} {x₀ x : Progress} {f₀ f : Floats} {n₀ n : Numbers} (p : r < s.rows)
+module _ {P : Model → Type 0} {s : Context} {form : Form} {nz : Float} {r len i : ℕ} {x₀ x : Progress} {f₀ f : Floats} {n₀ n : Numbers} (p : r < s.rows)
     (A : AtTerm P s form nz r len i x₀ x f₀ n₀ f n) where
   pub term_in : i < len → i < get_or n.len r 0
   term_in l = omega (arith, l, A.long)

@@ -8,7 +8,7 @@ use Rattle.definition.specs.Model.{Model, Row, Binding, with_touched}
 use Rattle.definition.specs.Work.{Work, with_row, no_row}
 use Rattle.definition.specs.Folds.{gives_back, given_back, hold_rewrites}
 use Rattle.definition.specs.Tighten.{Rewriting, queued}
-use Rattle.space.specs.declared.Shape.{Shape}
+use Rattle.space.specs.declared.Context.{Context}
 use Rattle.space.specs.Store.{Floats, Numbers, put_touched, put_rewrote}
 use Rattle.view.specs.Call.{Call}
 use Rattle.view.specs.Shows.{is_one, Shows, parts_of, BindingShown, unbound, is_bound, RowShown}
@@ -53,7 +53,7 @@ module _ {M : Model} (f : Floats) (n : Numbers) (r : ℕ) where
         binding = bound_same h.binding;
       }
 
-  others_same : {s : Shape} {y : Row} {q : ℕ} → Call M s → r < length M.rhs → q < length M.rhs → q ≢ r → RowShown M (parts_of f n) q y → RowShown M (parts_of f (put_touched r 1 n)) q y
+  others_same : {s : Context} {y : Row} {q : ℕ} → Call M s → r < length M.rhs → q < length M.rhs → q ≢ r → RowShown M (parts_of f n) q y → RowShown M (parts_of f (put_touched r 1 n)) q y
   others_same c lr lq ne h =
       other_shown c lq lr ne
       (record {
@@ -74,7 +74,7 @@ module _ {M : Model} (f : Floats) (n : Numbers) (r : ℕ) where
       })
       h
 
-touch_turns : {P : Model → Type 0} {s : Shape} {r : ℕ} {f : Floats} {n n' : Numbers} → r < s.rows → length n.touched ≡ s.rows → n' ≡ put_touched r 1 n
+touch_turns : {P : Model → Type 0} {s : Context} {r : ℕ} {f : Floats} {n n' : Numbers} → r < s.rows → length n.touched ≡ s.rows → n' ≡ put_touched r 1 n
     → Turns P s r f n f n' (λ M w. with_touched true)
 touch_turns {r = r} {f = f} {n = n} p l e =
     record {
@@ -104,7 +104,7 @@ unfolding hold_rewrites
 held_is M r w x e = no _ _ e
 
 -- what hold_rewrites asks for
-pub queued_standing : {P : Model → Type 0} {s : Shape} {r : ℕ} {f : Floats} {n n₁ : Numbers} → Ready P s f n → r < s.rows → Alive n r → ActsN Any s n n₁ (λ M. queued r) → Standing P s r f n₁
+pub queued_standing : {P : Model → Type 0} {s : Context} {r : ℕ} {f : Floats} {n n₁ : Numbers} → Ready P s f n → r < s.rows → Alive n r → ActsN Any s n n₁ (λ M. queued r) → Standing P s r f n₁
 queued_standing {r = r} {f = f} R p a q =
     let h₁ = q.does R.model f R.other R.left R.work tt R.call R.shows R.inv in
     let e = ap (λ (l : List Row). (get_or l r no_row).alive) (queued_rows r R.work) ∙ row_alive R.call R.shows p a in
@@ -125,7 +125,7 @@ queued_standing {r = r} {f = f} R p a q =
 abbrev pub ended_at : ℕ → Activity → Activity → Model → Work → Rewriting
 ended_at r old act M w = ended M r (row_of w r) old act (queued r w)
 
-module _ {P : Model → Type 0} {s : Shape} (r : ℕ) {f f₂ : Floats} {n n₁ n₂ : Numbers} {z : Bool} (p : r < s.rows) (a : Alive n r)
+module _ {P : Model → Type 0} {s : Context} (r : ℕ) {f f₂ : Floats} {n n₁ n₂ : Numbers} {z : Bool} (p : r < s.rows) (a : Alive n r)
     (q : ActsN Any s n n₁ (λ M. queued r)) (H : Holds P s r f n₁ f₂ n₂ z) (old act : Activity) where
   module _ (M : Model) (o : List ℕ) (k : ℕ) (w : Work) (m : P M) (c : Call M s) (h : Shows M f n o w) (i : Inv M k w) where
     same_row : row_of (queued r w) r ≡ row_of w r

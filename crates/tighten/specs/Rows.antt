@@ -15,7 +15,7 @@ use Rattle.formulas.specs.declared.Form.TheVariants.{Le, Ge}
 use Rattle.formulas.specs.declared.Limits.{Limits}
 use Rattle.formulas.specs.Bare.{bare, ByParams, form_of_of, vacuous_room_of}
 use Rattle.formulas.specs.Rewriting.{form_is, spared_at, spared_of}
-use Rattle.space.specs.declared.Shape.{Shape}
+use Rattle.space.specs.declared.Context.{Context}
 use Rattle.space.specs.Store.{Floats, Numbers, put_coeff_dirty}
 use Rattle.view.specs.declared.Lists.{Lists}
 use Rattle.view.specs.Call.{Call}
@@ -37,7 +37,7 @@ use Rattle.tighten.specs.Keeping.{good_shown, loop_good}
 use Rattle.tighten.specs.Loop.{loop_at}
 
 -- F is G in whatever state the slices show
-module _ {P : Model → Type 0} {s : Shape} {f f' : Floats} {n n' : Numbers} {z : Bool} (F : Model → Work → Work × Bool) (G : Model → Work → Work × Bool) where
+module _ {P : Model → Type 0} {s : Context} {f f' : Floats} {n n' : Numbers} {z : Bool} (F : Model → Work → Work × Bool) (G : Model → Work → Work × Bool) where
   bool_same : ((M : Model) (o : List ℕ) (k : ℕ) (w : Work) → P M → Call M s → Shows M f n o w → Inv M k w → F M w ≡ G M w) → ActsBool P s f n f' n' z G → ActsBool P s f n f' n' z F
   bool_same e a =
       record {
@@ -45,7 +45,7 @@ module _ {P : Model → Type 0} {s : Shape} {f f' : Floats} {n n' : Numbers} {z 
         says = λ M o k w p c h i. ap (λ (y : Work × Bool). y.1) (e M o k w p c h i) ∙ a.says M o k w p c h i;
       }
 
-bool_none : {P : Model → Type 0} {s : Shape} {f : Floats} {n : Numbers} {z : Bool} → ActsBool P s f n f n z (λ M w. (w, z))
+bool_none : {P : Model → Type 0} {s : Context} {f : Floats} {n : Numbers} {z : Bool} → ActsBool P s f n f n z (λ M w. (w, z))
 bool_none = record { does = λ M o k w p c h i. h; says = λ M o k w p c h i. refl }
 
 -- ---- tighten_form: the row's activity, the room of its vacuous branch, how many terms are eligible, and whether it is left alone
@@ -67,7 +67,7 @@ module _ (M : Model) (form : Form) (r : ℕ) (w : Work) where
 abbrev pub form_at : Form → ℕ → Model → Work → Work × Bool
 form_at form r M w = tighten_form M form r (row_of w r) w false
 
-module _ {lists : Lists} {s : Shape} (form : Form) (r : ℕ) {f : Floats} {n : Numbers}
+module _ {lists : Lists} {s : Context} (form : Form) (r : ℕ) {f : Floats} {n : Numbers}
     (p : r < s.rows) (a : Alive n r) {act : Activity} (A : Reads (Spans lists.rows.starts.now) s f n act (λ M w. activity M w (row_of w r) true))
     {lim : Limits} {terms : ℕ} (L : ReadsLimits s f r terms lim) {nz : Float} (en : nz ≡ vacuous_room form (bare lim) act) {d : ℕ}
     (E : Reads (Binaries lists.domain.now lists.rows.starts.now) s f n d (count_all form nz act r)) {len : ℕ} (el : len ≡ get_or n.len r 0) {b : Bool}
@@ -109,11 +109,11 @@ by_none M r row w changed = refl
 abbrev pub alive_at : ℕ → Model → Work → Work × Bool
 alive_at r M w = tighten_by M (form_of (row_of w r)) r (row_of w r) (looked r w) false
 
-form_here : {s : Shape} {f : Floats} {n : Numbers} {r terms : ℕ} {lim : Limits} {form : Form} → Alive n r → ReadsLimits s f r terms lim → form ≡ form_of (bare lim)
+form_here : {s : Context} {f : Floats} {n : Numbers} {r terms : ℕ} {lim : Limits} {form : Form} → Alive n r → ReadsLimits s f r terms lim → form ≡ form_of (bare lim)
     → {M : Model} {o : List ℕ} {w : Work} → Call M s → Shows M f n o w → form_of (row_of w r) ≡ form
 form_here {n = n} a L e {M} {o} {w} c h = sym (form_of_of (L.has M n o w c h a)) ∙ sym e
 
-module _ {P : Model → Type 0} {s : Shape} {f : Floats} {n n₁ : Numbers} (r : ℕ) (e₁ : n₁ ≡ put_coeff_dirty r 0 n) where
+module _ {P : Model → Type 0} {s : Context} {f : Floats} {n n₁ : Numbers} (r : ℕ) (e₁ : n₁ ≡ put_coeff_dirty r 0 n) where
   pub looked_ready : Ready P s f n → Ready P s f n₁
   looked_ready R = ready_after R (of_numbers (looked_acts r e₁)) (looked_keeps r)
 
@@ -156,7 +156,7 @@ and_false true b e = e
 and_false false b e = refl
 
 -- the row's two marks, as the slices have them
-module _ {M : Model} {s : Shape} {f : Floats} {n : Numbers} {o : List ℕ} {k : ℕ} {w : Work} (r : ℕ) (p : r < s.rows) (c : Call M s) (h : Shows M f n o w) (i : Inv M k w) where
+module _ {M : Model} {s : Context} {f : Floats} {n : Numbers} {o : List ℕ} {k : ℕ} {w : Work} (r : ℕ) (p : r < s.rows) (c : Call M s) (h : Shows M f n o w) (i : Inv M k w) where
   alive_flag : {v : ℕ} → v ≡ get_or n.alive r 0 → (row_of w r).alive ≡ is_one v
   alive_flag e = sym (h.alive r (omega (arith, p, c.rows))) ∙ ap is_one (sym e)
 
@@ -165,7 +165,7 @@ module _ {M : Model} {s : Shape} {f : Floats} {n : Numbers} {o : List ℕ} {k : 
       let l : length n.coeff_dirty ≡ length w.coeff_dirty = sym (length_map is_one n.coeff_dirty) ∙ ap length h.coeff_dirty in
       ap (λ (b : List Bool). get_or b r false) (sym h.coeff_dirty) ∙ get_d_map is_one n.coeff_dirty r 0 false (omega (arith, p, l, i.coeff_dirties, c.rows)) ∙ ap is_one (sym e)
 
-module _ {P : Model → Type 0} {s : Shape} (r : ℕ) {f : Floats} {n : Numbers} (p : r < s.rows) {v : ℕ} (ev : v ≡ get_or n.alive r 0) where
+module _ {P : Model → Type 0} {s : Context} (r : ℕ) {f : Floats} {n : Numbers} (p : r < s.rows) {v : ℕ} (ev : v ≡ get_or n.alive r 0) where
   pub row_dead : (v ≡ 1 → ⊥) → ActsBool P s f n f n false (λ M w. tighten_row M r w false)
   row_dead ne =
       bool_same (λ M w. tighten_row M r w false) (λ M w. (w, false))
@@ -217,7 +217,7 @@ row_before M r w true =
 row_before M r w false = refl
 
 -- ---- it keeps the invariant
-module _ {M : Model} {s : Shape} {k : ℕ} (c : Call M s) (r : ℕ) (p : r < length M.rhs) where
+module _ {M : Model} {s : Context} {k : ℕ} (c : Call M s) (r : ℕ) (p : r < length M.rhs) where
   inv_form : (form : Form) (w : Work) (changed : Bool) → Inv M k w → (row_of w r).alive ≡ true → Inv M k (tighten_form M form r (row_of w r) w changed).0
   unfolding tighten_form
   inv_form form w changed i a =
@@ -235,5 +235,5 @@ module _ {M : Model} {s : Shape} {k : ℕ} (c : Call M s) (r : ℕ) (p : r < len
   inv_tighten_row w changed i =
       either (λ (y : Work × Bool). Inv M k y.0) _ (λ e. inv_by (form_of (row_of w r)) (looked r w) changed (inv_looked r w i) (and_left (row_of w r).alive _ e)) (λ e. i)
 
-pub row_keeps : {P : Model → Type 0} {s : Shape} (r : ℕ) → r < s.rows → KeepsBool P s (λ M w. tighten_row M r w false)
+pub row_keeps : {P : Model → Type 0} {s : Context} (r : ℕ) → r < s.rows → KeepsBool P s (λ M w. tighten_row M r w false)
 row_keeps r p = record { keeps = λ M k w m c i. inv_tighten_row c r (omega (arith, p, c.rows)) w false i }

@@ -15,7 +15,7 @@ use Rattle.formulas.specs.Bare.{bare}
 use Rattle.formulas.specs.declared.Rebound.{Rebound}
 use Rattle.formulas.specs.declared.Rewrite as code
 use Rattle.formulas.specs.Rewriting.{bound_is, rewrite_is, maybe_rewrite, rewrite_at, rewrite_of_lem}
-use Rattle.space.specs.declared.Shape.{Shape}
+use Rattle.space.specs.declared.Context.{Context}
 use Rattle.space.specs.Store.{Floats, Numbers}
 use Rattle.view.specs.declared.Lists.{Lists}
 use Rattle.view.specs.Call.{Call}
@@ -52,7 +52,7 @@ keeps_none : eqb (defs.rewrites defs.keeps) 0 ≡ true
 unfolding defs.rewrites
 keeps_none = refl
 
-module _ {ds : List ℕ} {s : Shape} {f : Floats} {F : Model → Work → defs.Rewrite} {y : Option code.Rewrite} where
+module _ {ds : List ℕ} {s : Context} {f : Floats} {F : Model → Work → defs.Rewrite} {y : Option code.Rewrite} where
   pub term_some : {z : code.Rewrite} → y ≡ Some z → ReadsF (Domains ds) s f (maybe_rewrite y) F → ReadsF (Domains ds) s f (rewrite_is z) F
   term_some e t = subst (λ (u : Option code.Rewrite). ReadsF (Domains ds) s f (maybe_rewrite u) F) e t
 
@@ -69,7 +69,7 @@ step_before : (form : defs.Form) (nz : Float) (r i : ℕ) (b : Bool) (act : Acti
 step_before form nz r i true act M w = step_changed M form nz r i true (carried r (begun act false) w)
 step_before form nz r i false act M w = refl
 
-pub carries_before : {P : Model → Type 0} {s : Shape} {r : ℕ} {f f' : Floats} {n n' : Numbers} {z : Progress} (form : defs.Form) (nz : Float) (i : ℕ) (act : Activity) (b : Bool)
+pub carries_before : {P : Model → Type 0} {s : Context} {r : ℕ} {f f' : Floats} {n n' : Numbers} {z : Progress} (form : defs.Form) (nz : Float) (i : ℕ) (act : Activity) (b : Bool)
     → Carries P s r f n f' n' z (step_at form nz r i (begun act false)) → Carries P s r f n f' n' (or_before b z) (step_at form nz r i (begun act b))
 carries_before {r = r} {f' = f'} {n' = n'} form nz i act b t =
     record {
@@ -78,7 +78,7 @@ carries_before {r = r} {f' = f'} {n' = n'} form nz i act b t =
     }
 
 -- v and b are the term's as the slices have it, lim the row's four floats, z its rewrite
-module _ {lists : Lists} {s : Shape} (r i : ℕ) {f : Floats} {n : Numbers} (p : r < s.rows)
+module _ {lists : Lists} {s : Context} (r i : ℕ) {f : Floats} {n : Numbers} (p : r < s.rows)
     (a : Alive n r) (l : i < get_or n.len r 0) {v : ℕ} {b : Float} (ev : v ≡ get_or n.vars (get_or lists.rows.starts.now r 0 + i) 0)
     (eb : b ≡ get_or f.coeffs (get_or lists.rows.starts.now r 0 + i) nan) (form : defs.Form) (nz : Float) (x : Progress) {lim : Limits} {terms : ℕ} (L : ReadsLimits s f r terms lim)
     {z : defs.Rewrite} (T : ReadsF (Domains lists.domain.now) s f z (λ M w. rewrite_at M (binary M w v) form nz (bare lim) x.act b)) where

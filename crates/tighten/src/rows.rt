@@ -14,25 +14,25 @@ ghost use Rattle.tighten.specs.Counted.{looked};
 use crate::rewriting::rewrite_loop;
 use formulas::{Form, OneSided};
 use readers::Working;
-use space::{CoeffDirty, Len, Shape};
+use space::{CoeffDirty, Context, Len};
 use view::Lists;
 
 // = tighten_form, of row r as the slices have it and of no change before
 fn tighten_form(
     lists: Lists,
-    w: &mut [f64],
-    m: &mut [usize],
-    s: Shape,
+    floats: &mut [f64],
+    numbers: &mut [usize],
+    cx: Context,
     r: usize,
     form: Form,
 ) -> bool
-    requires r_lt_rows { (r < s.rows) × HoldsF s w.old × HoldsN s m.old × Alive (numbers_of s m.old) r }
-    requires ready { Ready (Tightening lists) s (floats_of s w.old) (numbers_of s m.old) }
-    ensures { ActsBool (Tightening lists.entry) s (floats_of s w.old) (numbers_of s m.old) (floats_of s w.new) (numbers_of s m.new) result
+    requires r_lt_rows { (r < cx.rows) × HoldsF cx floats.old × HoldsN cx numbers.old × Alive (numbers_of cx numbers.old) r }
+    requires ready { Ready (Tightening lists) cx (floats_of cx floats.old) (numbers_of cx numbers.old) }
+    ensures { ActsBool (Tightening lists.entry) cx (floats_of cx floats.old) (numbers_of cx numbers.old) (floats_of cx floats.new) (numbers_of cx numbers.new) result
         (λ M u. tighten_form M (form_is form) r (row_of u r) u false) }
 {
-    let act = readers::activity::<Working>(lists.rows.starts, w, m, s, r);
-    let limits = readers::limits(w, s, r, 0);
+    let act = readers::activity::<Working>(lists.rows.starts, floats, numbers, cx, r);
+    let limits = readers::limits(floats, cx, r, 0);
     let form = Some(form);
     let room = limits.vacuous_room(form, act);
     let x = OneSided {
@@ -41,53 +41,72 @@ fn tighten_form(
         limits,
         act,
     };
-    let n = coeffs::eligible(x, lists.domain, lists.rows.starts, w, m, s, r);
-    let len = space::get::<Len>(m, s, r);
+    let n = coeffs::eligible(x, lists.domain, lists.rows.starts, floats, numbers, cx, r);
+    let len = space::get::<Len>(numbers, cx, r);
     if formulas::spared(len, n) {
         return false;
     }
-    rewrite_loop(lists, w, m, s, r, x)
+    rewrite_loop(lists, floats, numbers, cx, r, x)
 }
 
 // = tighten_by, of an alive row and of no change before: the step has looked at the row, whatever its form is
-fn tighten_alive(lists: Lists, w: &mut [f64], m: &mut [usize], s: Shape, r: usize) -> bool
-    requires r_lt_rows { (r < s.rows) × HoldsF s w.old × HoldsN s m.old × Alive (numbers_of s m.old) r }
-    requires ready { Ready (Tightening lists) s (floats_of s w.old) (numbers_of s m.old) }
-    ensures { ActsBool (Tightening lists.entry) s (floats_of s w.old) (numbers_of s m.old) (floats_of s w.new) (numbers_of s m.new) result
+fn tighten_alive(
+    lists: Lists,
+    floats: &mut [f64],
+    numbers: &mut [usize],
+    cx: Context,
+    r: usize,
+) -> bool
+    requires r_lt_rows { (r < cx.rows) × HoldsF cx floats.old × HoldsN cx numbers.old × Alive (numbers_of cx numbers.old) r }
+    requires ready { Ready (Tightening lists) cx (floats_of cx floats.old) (numbers_of cx numbers.old) }
+    ensures { ActsBool (Tightening lists.entry) cx (floats_of cx floats.old) (numbers_of cx numbers.old) (floats_of cx floats.new) (numbers_of cx numbers.new) result
         (λ M u. tighten_by M (form_of (row_of u r)) r (row_of u r) (looked r u) false) }
 {
-    space::put::<CoeffDirty>(m, s, r, 0);
-    let limits = readers::limits(w, s, r, 0);
+    space::put::<CoeffDirty>(numbers, cx, r, 0);
+    let limits = readers::limits(floats, cx, r, 0);
     match limits.form() {
-        Some(form) => tighten_form(lists, w, m, s, r, form),
+        Some(form) => tighten_form(lists, floats, numbers, cx, r, form),
         None => false,
     }
 }
 
 // = tighten_row, of no change before: whether the row was rewritten
-fn tighten_row(lists: Lists, w: &mut [f64], m: &mut [usize], s: Shape, r: usize) -> bool
-    requires r_lt_rows { (r < s.rows) × HoldsF s w.old × HoldsN s m.old }
-    requires ready { Ready (Tightening lists) s (floats_of s w.old) (numbers_of s m.old) }
-    ensures { ActsBool (Tightening lists.entry) s (floats_of s w.old) (numbers_of s m.old) (floats_of s w.new) (numbers_of s m.new) result
+fn tighten_row(
+    lists: Lists,
+    floats: &mut [f64],
+    numbers: &mut [usize],
+    cx: Context,
+    r: usize,
+) -> bool
+    requires r_lt_rows { (r < cx.rows) × HoldsF cx floats.old × HoldsN cx numbers.old }
+    requires ready { Ready (Tightening lists) cx (floats_of cx floats.old) (numbers_of cx numbers.old) }
+    ensures { ActsBool (Tightening lists.entry) cx (floats_of cx floats.old) (numbers_of cx numbers.old) (floats_of cx floats.new) (numbers_of cx numbers.new) result
         (λ M u. tighten_row M r u false) }
 {
-    if space::get::<space::Alive>(m, s, r) == 1 && space::get::<CoeffDirty>(m, s, r) == 1 {
-        tighten_alive(lists, w, m, s, r)
+    if space::get::<space::Alive>(numbers, cx, r) == 1
+        && space::get::<CoeffDirty>(numbers, cx, r) == 1
+    {
+        tighten_alive(lists, floats, numbers, cx, r)
     } else {
         false
     }
 }
 
 // = tighten_binary_coeffs: whether something was rewritten
-pub fn tighten_binary_coeffs(lists: Lists, w: &mut [f64], m: &mut [usize], s: Shape) -> bool
-    requires holds_f { HoldsF s w.old × HoldsN s m.old }
-    requires ready { Ready (Tightening lists) s (floats_of s w.old) (numbers_of s m.old) }
-    ensures { ActsBool (Tightening lists.entry) s (floats_of s w.old) (numbers_of s m.old) (floats_of s w.new) (numbers_of s m.new) result
+pub fn tighten_binary_coeffs(
+    lists: Lists,
+    floats: &mut [f64],
+    numbers: &mut [usize],
+    cx: Context,
+) -> bool
+    requires holds_f { HoldsF cx floats.old × HoldsN cx numbers.old }
+    requires ready { Ready (Tightening lists) cx (floats_of cx floats.old) (numbers_of cx numbers.old) }
+    ensures { ActsBool (Tightening lists.entry) cx (floats_of cx floats.old) (numbers_of cx numbers.old) (floats_of cx floats.new) (numbers_of cx numbers.new) result
         (λ M. tighten_binary_coeffs M) }
 {
     let mut changed = false;
     for r in 0..s.rows {
-        changed |= tighten_row(lists, w, m, s, r);
+        changed |= tighten_row(lists, floats, numbers, cx, r);
     }
     changed
 }

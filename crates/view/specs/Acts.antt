@@ -2,14 +2,14 @@
 use Rattle.std.specs.Prelude.{ℕ, ◌≡◌, List}
 use Rattle.definition.specs.Model.{Model}
 use Rattle.definition.specs.Work.{Work, Step}
-use Rattle.space.specs.declared.Shape.{Shape}
+use Rattle.space.specs.declared.Context.{Context}
 use Rattle.space.specs.Store.{Floats, Numbers}
 use Rattle.view.specs.Call.{Call}
 use Rattle.view.specs.Shows.{Shows, StepShown, Outcome}
 use Rattle.view.specs.Inv.{Inv}
 
 -- what a function asks of the slices: they show some state of some such model
-pub record Ready (P : Model → Type 0) (s : Shape) (f : Floats) (n : Numbers) : Type 0 where
+pub record Ready (P : Model → Type 0) (s : Context) (f : Floats) (n : Numbers) : Type 0 where
   pub model : Model
   pub other : List ℕ
   pub left : ℕ
@@ -20,22 +20,22 @@ pub record Ready (P : Model → Type 0) (s : Shape) (f : Floats) (n : Numbers) :
   pub inv : Inv model left work
 
 -- what it promises: whatever state they show, they show F of it after
-pub record Acts (P : Model → Type 0) (s : Shape) (f : Floats) (n : Numbers) (f' : Floats) (n' : Numbers) (F : Model → Work → Work) : Type 0 where
+pub record Acts (P : Model → Type 0) (s : Context) (f : Floats) (n : Numbers) (f' : Floats) (n' : Numbers) (F : Model → Work → Work) : Type 0 where
   pub does : (M : Model) (o : List ℕ) (k : ℕ) (w : Work) → P M → Call M s → Shows M f n o w → Inv M k w → Shows M f' n' o (F M w)
 
-pub record Tries (P : Model → Type 0) (s : Shape) (f : Floats) (n : Numbers) (f' : Floats) (n' : Numbers) (z : Outcome) (F : Model → Work → Step) : Type 0 where
+pub record Tries (P : Model → Type 0) (s : Context) (f : Floats) (n : Numbers) (f' : Floats) (n' : Numbers) (z : Outcome) (F : Model → Work → Step) : Type 0 where
   pub does : (M : Model) (o : List ℕ) (k : ℕ) (w : Work) → P M → Call M s → Shows M f n o w → Inv M k w → StepShown M f' n' o z (F M w)
 
 -- what a reader promises: its result is the definition's
-pub record Reads {A : Type 0} (P : Model → Type 0) (s : Shape) (f : Floats) (n : Numbers) (z : A) (F : Model → Work → A) : Type 0 where
+pub record Reads {A : Type 0} (P : Model → Type 0) (s : Context) (f : Floats) (n : Numbers) (z : A) (F : Model → Work → A) : Type 0 where
   pub reads : (M : Model) (o : List ℕ) (k : ℕ) (w : Work) → P M → Call M s → Shows M f n o w → Inv M k w → F M w ≡ z
 
 -- what a step asks and promises that has the numbers alone: whatever the floats are
-pub record ReadyN (P : Model → Type 0) (s : Shape) (n : Numbers) : Type 0 where
+pub record ReadyN (P : Model → Type 0) (s : Context) (n : Numbers) : Type 0 where
   pub floats : Floats
   pub ready : Ready P s floats n
 
-pub record ActsN (P : Model → Type 0) (s : Shape) (n n' : Numbers) (F : Model → Work → Work) : Type 0 where
+pub record ActsN (P : Model → Type 0) (s : Context) (n n' : Numbers) (F : Model → Work → Work) : Type 0 where
   pub does : (M : Model) (f : Floats) (o : List ℕ) (k : ℕ) (w : Work) → P M → Call M s → Shows M f n o w → Inv M k w → Shows M f n' o (F M w)
 
 -- nothing is known of the model
@@ -43,10 +43,10 @@ abbrev pub Any : Model → Type 0
 Any M = Unit {0}
 
 -- F keeps the invariant
-pub record Keeps (P : Model → Type 0) (s : Shape) (F : Model → Work → Work) : Type 0 where
+pub record Keeps (P : Model → Type 0) (s : Context) (F : Model → Work → Work) : Type 0 where
   pub keeps : (M : Model) (k : ℕ) (w : Work) → P M → Call M s → Inv M k w → Inv M k (F M w)
 
-module _ {P : Model → Type 0} {s : Shape} where
+module _ {P : Model → Type 0} {s : Context} where
   pub ready_after : {f f' : Floats} {n n' : Numbers} {F : Model → Work → Work} → Ready P s f n → Acts P s f n f' n' F → Keeps P s F → Ready P s f' n'
   ready_after {F = F} r a k =
       record {

@@ -8,7 +8,7 @@ use Rattle.definition.specs.Model.{Model, tightened, fixed_one}
 use Rattle.definition.specs.Work.{Work, with_bounds, with_counts, Step, stop, next}
 use Rattle.definition.specs.Marks.{mark_var}
 use Rattle.definition.specs.Bounds.{fix, mark_tightened}
-use Rattle.space.specs.declared.Shape.{Shape}
+use Rattle.space.specs.declared.Context.{Context}
 use Rattle.space.specs.Store.{Floats, Numbers, put_wlo, put_whi, put_elo, put_ehi, put_fixed, put_tightened}
 use Rattle.view.specs.Shows.{Shows, StepShown, stopped, went}
 use Rattle.view.specs.Inv.{Inv}
@@ -30,7 +30,7 @@ set_elo v x w = with_bounds w.wlo w.whi (set w.elo v x) w.ehi w
 abbrev pub set_ehi : ℕ → Float → Work → Work
 set_ehi v x w = with_bounds w.wlo w.whi w.elo (set w.ehi v x) w
 
-module _ {P : Model → Type 0} {s : Shape} (v : ℕ) (x : Float) where
+module _ {P : Model → Type 0} {s : Context} (v : ℕ) (x : Float) where
   pub wlo_keeps : Keeps P s (λ M. set_wlo v x)
   wlo_keeps = record {
     keeps = λ M k w p c i. record {
@@ -95,7 +95,7 @@ module _ {P : Model → Type 0} {s : Shape} (v : ℕ) (x : Float) where
     };
   }
 
-module _ {P : Model → Type 0} {s : Shape} {f f' : Floats} {n : Numbers} {v : ℕ} {x : Float} where
+module _ {P : Model → Type 0} {s : Context} {f f' : Floats} {n : Numbers} {v : ℕ} {x : Float} where
   pub wlo_acts : f' ≡ put_wlo v x f → Acts P s f n f' n (λ M. set_wlo v x)
   wlo_acts e =
       record {
@@ -179,7 +179,7 @@ count_fixed w = with_counts (fixed_one w.counts) w
 abbrev pub count_tightened : Work → Work
 count_tightened w = with_counts (tightened w.counts) w
 
-module _ {P : Model → Type 0} {s : Shape} where
+module _ {P : Model → Type 0} {s : Context} where
   pub fixed_keeps : Keeps P s (λ M. count_fixed)
   fixed_keeps = record {
     keeps = λ M k w p c i. record {
@@ -212,7 +212,7 @@ module _ {P : Model → Type 0} {s : Shape} where
     };
   }
 
-module _ {P : Model → Type 0} {s : Shape} {n n' : Numbers} where
+module _ {P : Model → Type 0} {s : Context} {n n' : Numbers} where
   pub fixed_acts : length n.fixed ≡ 1 → n' ≡ put_fixed 0 ((get_or n.fixed 0 0 + 1) % 2 ^ 64) n → ActsN P s n n' (λ M. count_fixed)
   fixed_acts l e =
       record {
@@ -259,17 +259,17 @@ module _ {P : Model → Type 0} {s : Shape} {n n' : Numbers} where
       }
 
 -- ---- fix, and a bound that was tightened
-module _ {s : Shape} {adj : List ℕ} (v : ℕ) where
+module _ {s : Context} {adjacency : List ℕ} (v : ℕ) where
   pub fix_end : (x : Float) {f f₁ f₂ f₃ f₄ : Floats} {n n₁ n₂ : Numbers} → length n.fixed ≡ 1 → f₁ ≡ put_wlo v x f → f₂ ≡ put_whi v x f₁ → f₃ ≡ put_elo v x f₂ → f₄ ≡ put_ehi v x f₃
-      → n₁ ≡ put_fixed 0 ((get_or n.fixed 0 0 + 1) % 2 ^ 64) n → ActsN (Adj adj) s n₁ n₂ (λ M. mark_var M v) → Acts (Adj adj) s f n f₄ n₂ (λ M. fix M v x)
+      → n₁ ≡ put_fixed 0 ((get_or n.fixed 0 0 + 1) % 2 ^ 64) n → ActsN (Adj adjacency) s n₁ n₂ (λ M. mark_var M v) → Acts (Adj adjacency) s f n f₄ n₂ (λ M. fix M v x)
   unfolding fix
   fix_end x l e₁ e₂ e₃ e₄ e₅ m =
       let a = acts_then (wlo_acts e₁) (wlo_keeps v x) (acts_then (whi_acts e₂) (whi_keeps v x) (acts_then (elo_acts e₃) (elo_keeps v x) (acts_then (ehi_acts e₄) (ehi_keeps v x)
       (of_numbers (then_numbers (fixed_acts l e₅) fixed_keeps m))))) in
       record { does = a.does }
 
-  pub tighten_end : {n n₁ n₂ : Numbers} → length n.tightened ≡ 1 → n₁ ≡ put_tightened 0 ((get_or n.tightened 0 0 + 1) % 2 ^ 64) n → ActsN (Adj adj) s n₁ n₂ (λ M. mark_var M v)
-      → ActsN (Adj adj) s n n₂ (λ M. mark_tightened M v)
+  pub tighten_end : {n n₁ n₂ : Numbers} → length n.tightened ≡ 1 → n₁ ≡ put_tightened 0 ((get_or n.tightened 0 0 + 1) % 2 ^ 64) n → ActsN (Adj adjacency) s n₁ n₂ (λ M. mark_var M v)
+      → ActsN (Adj adjacency) s n n₂ (λ M. mark_tightened M v)
   unfolding mark_tightened
   tighten_end l e m = let a = then_numbers (tightened_acts l e) tightened_keeps m in record { does = a.does }
 

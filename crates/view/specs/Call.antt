@@ -2,9 +2,9 @@
 use Rattle.std.specs.Prelude.{ℕ, suc, ◌≤◌, ◌<◌, ◌≡◌, length, get_or}
 use Rattle.definition.specs.Params.{params}
 use Rattle.definition.specs.Model.{Model, from, upto, is_mip}
-use Rattle.space.specs.declared.Shape.{Shape}
+use Rattle.space.specs.declared.Context.{Context}
 
-pub record Call (M : Model) (s : Shape) : Type 0 where
+pub record Call (M : Model) (s : Context) : Type 0 where
   pub vars : s.vars ≡ length M.lower
   pub rows : s.rows ≡ length M.rhs
   pub terms : s.terms ≡ length M.index

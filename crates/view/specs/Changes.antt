@@ -2,7 +2,7 @@
 use Rattle.std.specs.Prelude.{ℕ, ◌≡◌, Bool, List}
 use Rattle.definition.specs.Model.{Model}
 use Rattle.definition.specs.Work.{Work}
-use Rattle.space.specs.declared.Shape.{Shape}
+use Rattle.space.specs.declared.Context.{Context}
 use Rattle.space.specs.Store.{Floats, Numbers}
 use Rattle.view.specs.Call.{Call}
 use Rattle.view.specs.Shows.{Shows}
@@ -10,14 +10,14 @@ use Rattle.view.specs.Inv.{Inv}
 use Rattle.view.specs.Acts.{Ready}
 
 -- whatever state the slices show, they show F's state after, and the result is F's
-pub record ActsBool (P : Model → Type 0) (s : Shape) (f : Floats) (n : Numbers) (f' : Floats) (n' : Numbers) (z : Bool) (F : Model → Work → Work × Bool) : Type 0 where
+pub record ActsBool (P : Model → Type 0) (s : Context) (f : Floats) (n : Numbers) (f' : Floats) (n' : Numbers) (z : Bool) (F : Model → Work → Work × Bool) : Type 0 where
   pub does : (M : Model) (o : List ℕ) (k : ℕ) (w : Work) → P M → Call M s → Shows M f n o w → Inv M k w → Shows M f' n' o (F M w).0
   pub says : (M : Model) (o : List ℕ) (k : ℕ) (w : Work) → P M → Call M s → Shows M f n o w → Inv M k w → (F M w).1 ≡ z
 
-pub record KeepsBool (P : Model → Type 0) (s : Shape) (F : Model → Work → Work × Bool) : Type 0 where
+pub record KeepsBool (P : Model → Type 0) (s : Context) (F : Model → Work → Work × Bool) : Type 0 where
   pub keeps : (M : Model) (k : ℕ) (w : Work) → P M → Call M s → Inv M k w → Inv M k (F M w).0
 
-module _ {P : Model → Type 0} {s : Shape} {f f' : Floats} {n n' : Numbers} {z : Bool} {F : Model → Work → Work × Bool} where
+module _ {P : Model → Type 0} {s : Context} {f f' : Floats} {n n' : Numbers} {z : Bool} {F : Model → Work → Work × Bool} where
   pub ready_changed : Ready P s f n → ActsBool P s f n f' n' z F → KeepsBool P s F → Ready P s f' n'
   ready_changed r a k =
       record {

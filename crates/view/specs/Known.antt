@@ -8,7 +8,7 @@ use Rattle.view.specs.Adjacency.{Adjacency}
 -- the domains and the rows of each variable
 pub record Bounding (x : Lists) (M : Model) : Type 0 where
   pub domain : M.domain ≡ x.domain.now
-  pub adj : Adjacency M x.adj.now
+  pub adjacency : Adjacency M x.adjacency.now
 
 -- where the rows' spans are
 pub record Spans (ss : List ℕ) (M : Model) : Type 0 where
@@ -26,7 +26,7 @@ pub record Written (x : Rows) (M : Model) : Type 0 where
 pub record Known (x : Lists) (M : Model) : Type 0 where
   pub written : Written x.rows M
   pub domain : M.domain ≡ x.domain.now
-  pub adj : Adjacency M x.adj.now
+  pub adjacency : Adjacency M x.adjacency.now
 
 module _ {x : Lists} (M : Model) (k : Known x M) where
   pub known_spans : Spans x.rows.starts.now M
@@ -35,8 +35,8 @@ module _ {x : Lists} (M : Model) (k : Known x M) where
   pub known_written : Written x.rows M
   known_written = k.written
 
-pub bounding_adj : {x : Lists} (M : Model) → Bounding x M → Adjacency M x.adj.now
-bounding_adj M k = k.adj
+pub bounding_adj : {x : Lists} (M : Model) → Bounding x M → Adjacency M x.adjacency.now
+bounding_adj M k = k.adjacency
 
 pub written_spans : {x : Rows} (M : Model) → Written x M → Spans x.starts.now M
 written_spans M k = record { starts = k.starts }

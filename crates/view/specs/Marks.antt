@@ -9,7 +9,7 @@ use Rattle.std.proofs.Math.Seq.{length-slice, slice, slice_empty}
 use Rattle.definition.specs.Model.{Model}
 use Rattle.definition.specs.Work.{Work, with_marks}
 use Rattle.definition.specs.Marks.{mark_row, adjacent, mark_from, mark_var}
-use Rattle.space.specs.declared.Shape.{Shape}
+use Rattle.space.specs.declared.Context.{Context}
 use Rattle.space.specs.Store.{Floats, Numbers, put_dirty, put_coeff_dirty, put_queue, put_queued}
 use Rattle.view.specs.Call.{Call}
 use Rattle.view.specs.Shows.{is_one, Shows}
@@ -70,7 +70,7 @@ module _ {M : Model} {k : ℕ} where
   unfolding mark_var
   inv_mark_var v w i = inv_mark_from (length M.rhs) 0 v w i
 
-pub mark_row_keeps : {P : Model → Type 0} {s : Shape} (r : ℕ) → Keeps P s (λ M. mark_row r)
+pub mark_row_keeps : {P : Model → Type 0} {s : Context} (r : ℕ) → Keeps P s (λ M. mark_row r)
 mark_row_keeps r = record { keeps = λ M k w p c i. inv_mark_row r w i }
 
 -- a row's flag, in the blocks and in the state
@@ -80,7 +80,7 @@ flag_of {n = n} {r = r} {w = w} h i p =
     ap (λ (b : List Bool). get_or b r true) (sym h.dirty) ∙ get_d_map is_one n.dirty r 0 true (omega (arith, l, i.dirties))
 
 -- ---- mark_row
-module _ {s : Shape} {n : Numbers} {r : ℕ} where
+module _ {s : Context} {n : Numbers} {r : ℕ} where
   -- there is room for a row that is not queued
   room_of : {M : Model} {f : Floats} {k : ℕ} {o : List ℕ} {w : Work} → Call M s → Shows M f n o w → Inv M k w → r < s.rows → get_or n.dirty r 0 ≢ 1 → get_or n.queued 0 0 < s.rows
   room_of {w = w} c h i p ne =
@@ -170,31 +170,31 @@ unfolding mark_all
 inv_mark_all [] w i = i
 inv_mark_all (r ∷ rs) w i = inv_mark_all rs (mark_row r w) (inv_mark_row r w i)
 
-pub mark_all_keeps : {P : Model → Type 0} {s : Shape} (rs : List ℕ) → Keeps P s (λ M. mark_all rs)
+pub mark_all_keeps : {P : Model → Type 0} {s : Context} (rs : List ℕ) → Keeps P s (λ M. mark_all rs)
 mark_all_keeps rs = record { keeps = λ M k w p c i. inv_mark_all rs w i }
 
 -- after the rows from a up to i
-pub record RowsInv (s : Shape) (adj : List ℕ) (a e i : ℕ) (n₀ n : Numbers) : Type 0 where
+pub record RowsInv (s : Context) (adjacency : List ℕ) (a e i : ℕ) (n₀ n : Numbers) : Type 0 where
   pub upto : i ≤ e
   pub from : a ≤ i
-  pub rows : Below s.rows (slice a e adj)
-  pub long : e ≤ length adj
+  pub rows : Below s.rows (slice a e adjacency)
+  pub long : e ≤ length adjacency
   pub ready : ReadyN Any s n
-  pub acts : ActsN Any s n₀ n (λ M. mark_all (slice a i adj))
+  pub acts : ActsN Any s n₀ n (λ M. mark_all (slice a i adjacency))
 
-module _ {s : Shape} {adj : List ℕ} {a e i : ℕ} {n₀ n : Numbers} (v : RowsInv s adj a e i n₀ n) where
-  pub rows_row : {r : ℕ} → i < e → r ≡ get_or adj i 0 → r < s.rows
+module _ {s : Context} {adjacency : List ℕ} {a e i : ℕ} {n₀ n : Numbers} (v : RowsInv s adjacency a e i n₀ n) where
+  pub rows_row : {r : ℕ} → i < e → r ≡ get_or adjacency i 0 → r < s.rows
   rows_row {r} p q =
-      let b : i - a < length (slice a e adj) = let z = length-slice a e adj v.long in omega (arith, z, p, v.from) in
+      let b : i - a < length (slice a e adjacency) = let z = length-slice a e adjacency v.long in omega (arith, z, p, v.from) in
       let j : a + (i - a) ≡ i = omega (arith, v.from) in
-      let x : get_or (slice a e adj) (i - a) 0 ≡ get_or adj i 0 = get_or-drop a (take e adj) (i - a) 0 ∙ ap (λ (k : ℕ). get_or (take e adj) k 0) j ∙ get_or-take e adj i 0 p in
+      let x : get_or (slice a e adjacency) (i - a) 0 ≡ get_or adjacency i 0 = get_or-drop a (take e adjacency) (i - a) 0 ∙ ap (λ (k : ℕ). get_or (take e adjacency) k 0) j ∙ get_or-take e adjacency i 0 p in
       omega (arith, q, x, v.rows.below (i - a) b)
 
-  pub rows_turn : {r : ℕ} {n' : Numbers} → i < e → r ≡ get_or adj i 0 → ActsN Any s n n' (λ M. mark_row r) → RowsInv s adj a e (i + 1) n₀ n'
+  pub rows_turn : {r : ℕ} {n' : Numbers} → i < e → r ≡ get_or adjacency i 0 → ActsN Any s n n' (λ M. mark_row r) → RowsInv s adjacency a e (i + 1) n₀ n'
   rows_turn {r} {n'} p q t =
-      let z : (w : Work) → mark_all (slice a (i + 1) adj) w ≡ mark_row r (mark_all (slice a i adj) w) =
-      λ w. rw (add-one, slice_snoc a i adj 0 v.from (omega (arith, p, v.long)), ← q) (mark_snoc (slice a i adj) r w) in
-      let b = then_numbers v.acts (mark_all_keeps (slice a i adj)) t in
+      let z : (w : Work) → mark_all (slice a (i + 1) adjacency) w ≡ mark_row r (mark_all (slice a i adjacency) w) =
+      λ w. rw (add-one, slice_snoc a i adjacency 0 v.from (omega (arith, p, v.long)), ← q) (mark_snoc (slice a i adjacency) r w) in
+      let b = then_numbers v.acts (mark_all_keeps (slice a i adjacency)) t in
       record {
         upto = omega (arith, p);
         from = omega (arith, v.from);
@@ -204,20 +204,20 @@ module _ {s : Shape} {adj : List ℕ} {a e i : ℕ} {n₀ n : Numbers} (v : Rows
         acts = record { does = λ M f o k w x c h j. subst (λ (y : Work). Shows M f n' o y) (sym (z w)) (b.does M f o k w x c h j) };
       }
 
-  pub rows_end : e ≤ i → ActsN Any s n₀ n (λ M. mark_all (slice a e adj))
-  rows_end p = let z : i ≡ e = omega (arith, p, v.upto) in subst (λ (j : ℕ). ActsN Any s n₀ n (λ M. mark_all (slice a j adj))) z v.acts
+  pub rows_end : e ≤ i → ActsN Any s n₀ n (λ M. mark_all (slice a e adjacency))
+  rows_end p = let z : i ≡ e = omega (arith, p, v.upto) in subst (λ (j : ℕ). ActsN Any s n₀ n (λ M. mark_all (slice a j adjacency))) z v.acts
 
 mark_none : {M : Model} {f : Floats} {n : Numbers} {o : List ℕ} {w : Work} → Shows M f n o w → Shows M f n o (mark_all [] w)
 unfolding mark_all
 mark_none h = h
 
-pub rows_start : {s : Shape} {adj : List ℕ} {a e : ℕ} {n : Numbers} → a ≤ e → Below s.rows (slice a e adj) → e ≤ length adj → ReadyN Any s n → RowsInv s adj a e a n n
-rows_start {s} {adj} {a} {e} {n} p b l R =
+pub rows_start : {s : Context} {adjacency : List ℕ} {a e : ℕ} {n : Numbers} → a ≤ e → Below s.rows (slice a e adjacency) → e ≤ length adjacency → ReadyN Any s n → RowsInv s adjacency a e a n n
+rows_start {s} {adjacency} {a} {e} {n} p b l R =
     record {
       upto = p;
       from = omega arith;
       rows = b;
       long = l;
       ready = R;
-      acts = record { does = λ M f o k w x c h i. subst (λ (rs : List ℕ). Shows M f n o (mark_all rs w)) (sym (slice_empty a adj)) (mark_none h) };
+      acts = record { does = λ M f o k w x c h i. subst (λ (rs : List ℕ). Shows M f n o (mark_all rs w)) (sym (slice_empty a adjacency)) (mark_none h) };
     }

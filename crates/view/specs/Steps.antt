@@ -5,7 +5,7 @@ use Rattle.definition.specs.declared.Counts.{Counts}
 use Rattle.definition.specs.declared.Infeasible.{Infeasible}
 use Rattle.definition.specs.Model.{Model}
 use Rattle.definition.specs.Work.{Work, Step, stop, next, ◌>>=◌}
-use Rattle.space.specs.declared.Shape.{Shape}
+use Rattle.space.specs.declared.Context.{Context}
 use Rattle.space.specs.Store.{Floats, Numbers}
 use Rattle.view.specs.Call.{Call}
 use Rattle.view.specs.Shows.{Shows, Outcome, StepShown, stopped, went}
@@ -22,7 +22,7 @@ pub data InvStep (M : Model) (k : ℕ) : Step → Type 0 where
   stops : {c : Counts} → InvStep M k (stop c)
   goes : {w : Work} → Inv M k w → InvStep M k (next w)
 
-pub record KeepsStep (P : Model → Type 0) (s : Shape) (F : Model → Work → Step) : Type 0 where
+pub record KeepsStep (P : Model → Type 0) (s : Context) (F : Model → Work → Step) : Type 0 where
   pub keeps : (M : Model) (k : ℕ) (w : Work) → P M → Call M s → Inv M k w → InvStep M k (F M w)
 
 -- a step that went on, as the slices show it, and its state
@@ -37,7 +37,7 @@ went_is (went {w} h) = record { work = w; is = refl; shows = h }
 inv_next : {M : Model} {k : ℕ} {w : Work} → InvStep M k (next w) → Inv M k w
 inv_next (goes i) = i
 
-module _ {P : Model → Type 0} {s : Shape} {f f₁ : Floats} {n n₁ : Numbers} {F : Model → Work → Step} where
+module _ {P : Model → Type 0} {s : Context} {f f₁ : Floats} {n n₁ : Numbers} {F : Model → Work → Step} where
   pub ready_went : Ready P s f n → Tries P s f n f₁ n₁ (Ok tt) F → KeepsStep P s F → Ready P s f₁ n₁
   ready_went r t k =
       let g = went_is (t.does r.model r.other r.left r.work r.known r.call r.shows r.inv) in
@@ -70,7 +70,7 @@ module _ {P : Model → Type 0} {s : Shape} {f f₁ : Floats} {n n₁ : Numbers}
       halted : {e : Infeasible} (G : Model → Work → Step) (M : Model) (o : List ℕ) {y : Step} → StepShown M f₁ n₁ o (Err e) y → StepShown M f₁ n₁ o (Err e) (y >>= λ w1. G M w1)
       halted G M o (stopped k) = stopped k
 
-pub keeps_then : {P : Model → Type 0} {s : Shape} {F G : Model → Work → Step} → KeepsStep P s F → KeepsStep P s G → KeepsStep P s (λ M w. F M w >>= λ w1. G M w1)
+pub keeps_then : {P : Model → Type 0} {s : Context} {F G : Model → Work → Step} → KeepsStep P s F → KeepsStep P s G → KeepsStep P s (λ M w. F M w >>= λ w1. G M w1)
 keeps_then {P} {s} {F} {G} a b = record { keeps = λ M k w p c i. go M k p c (a.keeps M k w p c i) }
   where
     go : (M : Model) (k : ℕ) → P M → Call M s → {y : Step} → InvStep M k y → InvStep M k (y >>= λ w1. G M w1)
@@ -78,7 +78,7 @@ keeps_then {P} {s} {F} {G} a b = record { keeps = λ M k w p c i. go M k p c (a.
     go M k p c (goes {w} i) = b.keeps M k w p c i
 
 -- ---- a contract that asks for P holds where Q, which says more, is known
-module _ {P Q : Model → Type 0} {s : Shape} (q : (M : Model) → Q M → P M) where
+module _ {P Q : Model → Type 0} {s : Context} (q : (M : Model) → Q M → P M) where
   pub acts_under : {f f' : Floats} {n n' : Numbers} {F : Model → Work → Work} → Acts P s f n f' n' F → Acts Q s f n f' n' F
   acts_under a = record { does = λ M o k w p c h i. a.does M o k w (q M p) c h i }
 

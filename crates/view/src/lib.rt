@@ -12,5 +12,5 @@ use definition::Rows;
 pub struct Lists<'a> {
     pub rows: Rows<'a>,
     pub domain: &'a [u8],
-    pub adj: &'a [usize],
+    pub adjacency: &'a [usize],
 }

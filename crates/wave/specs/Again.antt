@@ -6,7 +6,7 @@ use Rattle.definition.specs.Params.{params, max_waves}
 use Rattle.definition.specs.Model.{Model}
 use Rattle.definition.specs.Work.{Work, Step, next, ◌>>=◌}
 use Rattle.definition.specs.Wave.{idle, wave, waves}
-use Rattle.space.specs.declared.Shape.{Shape}
+use Rattle.space.specs.declared.Context.{Context}
 use Rattle.space.specs.Store.{Floats, Numbers}
 use Rattle.view.specs.Call.{Call}
 use Rattle.view.specs.Shows.{Shows, StepShown}
@@ -47,13 +47,13 @@ unfolding waves
 waves_on M n w e = no _ _ (idle_some w.queue e)
 
 -- ---- the invariant is kept
-inv_waves : {M : Model} {s : Shape} {k : ℕ} (n : ℕ) (w : Work) → Call M s → Inv M k w → InvStep M k (waves M n w)
+inv_waves : {M : Model} {s : Context} {k : ℕ} (n : ℕ) (w : Work) → Call M s → Inv M k w → InvStep M k (waves M n w)
 unfolding waves
 inv_waves zero w c i = goes i
 inv_waves {M} {s} {k} (suc n) w c i =
     either (InvStep M k) _ (λ e. goes i) (λ e. inv_then (λ w1. waves M n w1) ((wave_keeps {P = Any} {s = s}).keeps M k w tt c i) (λ u j. inv_waves n u c j))
 
-pub waves_keeps : {P : Model → Type 0} {s : Shape} → KeepsStep P s (λ M w. waves M (left_of M w) w)
+pub waves_keeps : {P : Model → Type 0} {s : Context} → KeepsStep P s (λ M w. waves M (left_of M w) w)
 waves_keeps = record { keeps = λ M k w p c i. inv_waves (left_of M w) w c i }
 
 -- ---- p waves were run, so many less are left
@@ -65,10 +65,10 @@ pub record Wandered (M : Model) (f : Floats) (n : Numbers) (k : ℕ) (w : Work) 
   pub other : List ℕ
   pub on : Onward M f n other k (Waved M w cap p)
 
-pub record Waving (P : Model → Type 0) (s : Shape) (f₀ : Floats) (n₀ : Numbers) (f : Floats) (n : Numbers) (cap p : ℕ) : Type 0 where
+pub record Waving (P : Model → Type 0) (s : Context) (f₀ : Floats) (n₀ : Numbers) (f : Floats) (n : Numbers) (cap p : ℕ) : Type 0 where
   pub each : (M : Model) (o : List ℕ) (k : ℕ) (w : Work) → P M → Call M s → Shows M f₀ n₀ o w → Inv M k w → Wandered M f n k w cap p
 
-pub waving_start : {P : Model → Type 0} {s : Shape} {f : Floats} {n : Numbers} {cap p : ℕ} → cap ≡ max_waves params → p ≡ get_or n.passes 0 0 → Waving P s f n f n cap p
+pub waving_start : {P : Model → Type 0} {s : Context} {f : Floats} {n : Numbers} {cap p : ℕ} → cap ≡ max_waves params → p ≡ get_or n.passes 0 0 → Waving P s f n f n cap p
 waving_start {cap = cap} {p} ec ep =
     record {
       each = λ M o k w x c h i.
@@ -80,7 +80,7 @@ waving_start {cap = cap} {p} ec ep =
           };
     }
 
-module _ {P : Model → Type 0} {s : Shape} {f₀ f : Floats} {n₀ n : Numbers} {cap p : ℕ} where
+module _ {P : Model → Type 0} {s : Context} {f₀ f : Floats} {n₀ n : Numbers} {cap p : ℕ} where
   module _ (R : Ready P s f₀ n₀) (T : Waving P s f₀ n₀ f n cap p) where
     here : Wandered R.model f n R.left R.work cap p
     here = T.each R.model R.other R.left R.work R.known R.call R.shows R.inv

@@ -4,7 +4,7 @@ use Rattle.std.proofs.Common.{arith, add-one, ap, sym, ◌∙◌, subst, take-su
 use Rattle.definition.specs.Model.{Model, passed}
 use Rattle.definition.specs.Work.{Work, with_marks, with_counts, Step, next}
 use Rattle.definition.specs.Wave.{wave_rows, wave}
-use Rattle.space.specs.declared.Shape.{Shape}
+use Rattle.space.specs.declared.Context.{Context}
 use Rattle.space.specs.Store.{Floats, Numbers, put_wave, put_queued, put_passes}
 use Rattle.view.specs.Call.{Call}
 use Rattle.view.specs.Shows.{Shows, StepShown, Outcome}
@@ -73,10 +73,10 @@ pub record Afresh (M : Model) (f : Floats) (n : Numbers) (z : Outcome) (y : Step
   pub other : List ℕ
   pub step : StepShown M f n other z y
 
-pub record Waves (P : Model → Type 0) (s : Shape) (f : Floats) (n : Numbers) (f' : Floats) (n' : Numbers) (z : Outcome) (F : Model → Work → Step) : Type 0 where
+pub record Waves (P : Model → Type 0) (s : Context) (f : Floats) (n : Numbers) (f' : Floats) (n' : Numbers) (z : Outcome) (F : Model → Work → Step) : Type 0 where
   pub does : (M : Model) (o : List ℕ) (k : ℕ) (w : Work) → P M → Call M s → Shows M f n o w → Inv M k w → Afresh M f' n' z (F M w)
 
-pub waves_is : {P : Model → Type 0} {s : Shape} {f f' : Floats} {n n' : Numbers} {z y : Outcome} {F : Model → Work → Step} → Waves P s f n f' n' z F → z ≡ y → Waves P s f n f' n' y F
+pub waves_is : {P : Model → Type 0} {s : Context} {f f' : Floats} {n n' : Numbers} {z y : Outcome} {F : Model → Work → Step} → Waves P s f n f' n' z F → z ≡ y → Waves P s f n f' n' y F
 waves_is {P} {s} {f} {f'} {n} {n'} {F = F} t e = subst (λ (x : Outcome). Waves P s f n f' n' x F) e t
 
 abbrev begun : Work → Work
@@ -101,20 +101,20 @@ inv_begun w i =
       rows = i.rows;
     }
 
-below_rows : {M : Model} {s : Shape} {l : List ℕ} → Call M s → Below (length M.rhs) l → Below s.rows l
+below_rows : {M : Model} {s : Context} {l : List ℕ} → Call M s → Below (length M.rhs) l → Below s.rows l
 below_rows c b = record { below = λ i p. let z = b.below i p in omega (arith, z, c.rows) }
 
-pub wave_keeps : {P : Model → Type 0} {s : Shape} → KeepsStep P s wave
+pub wave_keeps : {P : Model → Type 0} {s : Context} → KeepsStep P s wave
 wave_keeps = record { keeps = λ M k w p c i. rw (wave_of M w) (inv_rows w.queue (begun w) c (below_rows c i.queue) (inv_begun w i)) }
 
 -- one wave more is counted
 pub wave_passes : (M : Model) (w u : Work) → wave M w ≡ next u → u.counts.passes ≡ suc w.counts.passes
 wave_passes M w u e = same_next (passes_rows M w.queue (begun w)) (sym (wave_of M w) ∙ e)
 
-queue_fits : {M : Model} {s : Shape} {k : ℕ} {w : Work} → Call M s → Inv M k w → length w.queue ≤ s.rows
+queue_fits : {M : Model} {s : Context} {k : ℕ} {w : Work} → Call M s → Inv M k w → length w.queue ≤ s.rows
 queue_fits {w = w} c i = omega (arith, i.room, marked_le w.dirty, i.dirties, c.rows)
 
-pub queued_fits : {P : Model → Type 0} {s : Shape} {f : Floats} {n : Numbers} {cnt : ℕ} → Ready P s f n → cnt ≡ get_or n.queued 0 0 → cnt ≤ s.rows
+pub queued_fits : {P : Model → Type 0} {s : Context} {f : Floats} {n : Numbers} {cnt : ℕ} → Ready P s f n → cnt ≡ get_or n.queued 0 0 → cnt ≤ s.rows
 queued_fits R e = omega (arith, e, R.shows.queued, queue_fits R.call R.inv)
 
 pub passes_small : {n n₁ n₂ : Numbers} {cnt p : ℕ} → Copied n n₁ cnt → n₂ ≡ put_queued 0 0 n₁ → p ≡ get_or n₂.passes 0 0 → get_or n.passes 0 0 < 30 → p < 30
@@ -150,7 +150,7 @@ module _ {f : Floats} {n n₁ n₂ n₃ : Numbers} {cnt p : ℕ} (lq : length n.
 rows_are_lem : {M : Model} {f : Floats} {n n₁ : Numbers} {o : List ℕ} {w : Work} {cnt : ℕ} → cnt ≡ get_or n.queued 0 0 → Copied n n₁ cnt → Shows M f n o w → take cnt n₁.wave ≡ w.queue
 rows_are_lem {n = n} ec C h = C.taken ∙ ap (λ (j : ℕ). take j n.queue) ec ∙ h.queue
 
-module _ {P : Model → Type 0} {s : Shape} {f : Floats} {n n₁ n₂ n₃ : Numbers} {cnt p : ℕ} (lq : length n.queued ≡ 1) (lp : length n.passes ≡ 1)
+module _ {P : Model → Type 0} {s : Context} {f : Floats} {n n₁ n₂ n₃ : Numbers} {cnt p : ℕ} (lq : length n.queued ≡ 1) (lp : length n.passes ≡ 1)
     (ec : cnt ≡ get_or n.queued 0 0) (C : Copied n n₁ cnt) (e₂ : n₂ ≡ put_queued 0 0 n₁) (ep : p ≡ get_or n₂.passes 0 0)
     (e₃ : n₃ ≡ put_passes 0 (p + 1) n₂) where
   pub ready_wave : Ready P s f n → ReadyWave P s f n₃ cnt
@@ -187,7 +187,7 @@ module _ {P : Model → Type 0} {s : Shape} {f : Floats} {n n₁ n₂ n₃ : Num
       }
 
 -- ---- the next wave's state
-pub ready_afresh : {P : Model → Type 0} {s : Shape} {f f' : Floats} {n n' : Numbers} {F : Model → Work → Step} → Ready P s f n → Waves P s f n f' n' (Ok tt) F → KeepsStep P s F → Ready P s f' n'
+pub ready_afresh : {P : Model → Type 0} {s : Context} {f f' : Floats} {n n' : Numbers} {F : Model → Work → Step} → Ready P s f n → Waves P s f n f' n' (Ok tt) F → KeepsStep P s F → Ready P s f' n'
 ready_afresh r t k =
     let a = t.does r.model r.other r.left r.work r.known r.call r.shows r.inv in
     let g = went_is a.step in

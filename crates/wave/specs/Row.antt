@@ -5,7 +5,7 @@ use Rattle.definition.specs.Model.{Model, Row}
 use Rattle.definition.specs.Work.{Work, with_marks, with_row, Step, next}
 use Rattle.definition.specs.Folds.{fold_fixed}
 use Rattle.definition.specs.Wave.{by_count, wave_row}
-use Rattle.space.specs.declared.Shape.{Shape}
+use Rattle.space.specs.declared.Context.{Context}
 use Rattle.space.specs.Store.{Floats, Numbers, put_dirty}
 use Rattle.view.specs.declared.Lists.{Lists}
 use Rattle.view.specs.Call.{Call}
@@ -25,14 +25,14 @@ use Rattle.folds.specs.Kept.{fold_fixed_kept, fold_fixed_keeps}
 use Rattle.several.specs.ByCount.{inv_count, passes_count}
 
 -- what a wave's row asks: one row of the wave, this one, is still to come
-pub record ReadyRow (P : Model → Type 0) (s : Shape) (f : Floats) (n : Numbers) : Type 0 where
+pub record ReadyRow (P : Model → Type 0) (s : Context) (f : Floats) (n : Numbers) : Type 0 where
   pub ready : Ready P s f n
   pub left : 0 < ready.left
 
-pub record TriesRow (P : Model → Type 0) (s : Shape) (f : Floats) (n : Numbers) (f' : Floats) (n' : Numbers) (z : Outcome) (F : Model → Work → Step) : Type 0 where
+pub record TriesRow (P : Model → Type 0) (s : Context) (f : Floats) (n : Numbers) (f' : Floats) (n' : Numbers) (z : Outcome) (F : Model → Work → Step) : Type 0 where
   pub does : (M : Model) (o : List ℕ) (k : ℕ) (w : Work) → P M → Call M s → Shows M f n o w → Inv M (suc k) w → StepShown M f' n' o z (F M w)
 
-pub row_is : {P : Model → Type 0} {s : Shape} {f f' : Floats} {n n' : Numbers} {z y : Outcome} {F : Model → Work → Step} → TriesRow P s f n f' n' z F → z ≡ y → TriesRow P s f n f' n' y F
+pub row_is : {P : Model → Type 0} {s : Context} {f f' : Floats} {n n' : Numbers} {z y : Outcome} {F : Model → Work → Step} → TriesRow P s f n f' n' z F → z ≡ y → TriesRow P s f n f' n' y F
 row_is {P} {s} {f} {f'} {n} {n'} {F = F} t e = subst (λ (x : Outcome). TriesRow P s f n f' n' x F) e t
 
 -- ---- its mark is cleared
@@ -86,14 +86,14 @@ unfolding wave_row
 row_live_is M r w e = yes _ _ e
 
 -- ---- it keeps the invariant
-pub inv_wave_row : {M : Model} {s : Shape} {k : ℕ} (r : ℕ) (w : Work) → Call M s → r < s.rows → Inv M (suc k) w → InvStep M k (wave_row M r w)
+pub inv_wave_row : {M : Model} {s : Context} {k : ℕ} (r : ℕ) (w : Work) → Call M s → r < s.rows → Inv M (suc k) w → InvStep M k (wave_row M r w)
 unfolding wave_row
 inv_wave_row {M} {s} {k} r w c p i =
     let j = inv_clear r w i in
     either (InvStep M k) _ (λ e. inv_count r _ _ _ ((fold_fixed_keeps {P = Any} {s = s} r p).keeps M k (cleared r w) tt c j)) (λ e. goes j)
 
 -- ---- wave_row
-module _ {P : Model → Type 0} {s : Shape} {f : Floats} {n n₁ : Numbers} (r : ℕ) (p : r < s.rows) (e₁ : n₁ ≡ put_dirty r 0 n) where
+module _ {P : Model → Type 0} {s : Context} {f : Floats} {n n₁ : Numbers} (r : ℕ) (p : r < s.rows) (e₁ : n₁ ≡ put_dirty r 0 n) where
   pub ready_clear : ReadyRow P s f n → Ready P s f n₁
   ready_clear R =
       let q = R.ready in
@@ -116,12 +116,12 @@ module _ {P : Model → Type 0} {s : Shape} {f : Floats} {n n₁ : Numbers} (r :
             went_by (row_dead_is M r w (sym (g.alive r (omega (arith, p, c.rows))) ∙ one_not (get_or n₁.alive r 0) (λ z. ne (ev ∙ z)))) g;
       }
 
-folds_acts : {lists : Lists} {s : Shape} {f f' : Floats} {n n' : Numbers} (r : ℕ)
+folds_acts : {lists : Lists} {s : Context} {f f' : Floats} {n n' : Numbers} (r : ℕ)
     → r < s.rows → Alive n r → Turns (Written lists.rows) s r f n f' n' (λ M. fold_fixed M r)
     → Acts (Known lists) s f n f' n' (λ M w. with_row r (fold_fixed M r w (row_of w r)) w)
 folds_acts r p a T = acts_under known_written (turns_acts p a T)
 
-module _ {lists : Lists} {s : Shape} {f : Floats} {n n₁ : Numbers} {f₂ : Floats}
+module _ {lists : Lists} {s : Context} {f : Floats} {n n₁ : Numbers} {f₂ : Floats}
     {n₂ : Numbers} (r : ℕ) (p : r < s.rows) (e₁ : n₁ ≡ put_dirty r 0 n) {v : ℕ} (ev : v ≡ get_or n₁.alive r 0)
     (one : v ≡ 1) (T : Turns (Written lists.rows) s r f n₁ f₂ n₂ (λ M. fold_fixed M r)) where
   pub ready_folded : ReadyRow (Known lists) s f n → Ready (Known lists) s f₂ n₂

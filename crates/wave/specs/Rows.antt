@@ -5,7 +5,7 @@ use Rattle.definition.specs.declared.Infeasible.{Infeasible}
 use Rattle.definition.specs.Model.{Model}
 use Rattle.definition.specs.Work.{Work, Step, next, ◌>>=◌}
 use Rattle.definition.specs.Wave.{wave_row, wave_rows}
-use Rattle.space.specs.declared.Shape.{Shape}
+use Rattle.space.specs.declared.Context.{Context}
 use Rattle.space.specs.Store.{Floats, Numbers}
 use Rattle.view.specs.Call.{Call}
 use Rattle.view.specs.Shows.{Shows, StepShown, Outcome}
@@ -19,16 +19,16 @@ use Rattle.rows.specs.Loop.{Onward}
 use Rattle.wave.specs.Row.{ReadyRow, TriesRow, inv_wave_row, passes_row}
 
 -- what the loop asks: the first cnt rows of the wave's block are rows, and still to come
-pub record ReadyWave (P : Model → Type 0) (s : Shape) (f : Floats) (n : Numbers) (cnt : ℕ) : Type 0 where
+pub record ReadyWave (P : Model → Type 0) (s : Context) (f : Floats) (n : Numbers) (cnt : ℕ) : Type 0 where
   pub ready : Ready P s f n
   pub left : cnt ≤ ready.left
   pub below : Below s.rows (take cnt n.wave)
   pub fits : cnt ≤ s.rows
 
-pub record TriesWave (P : Model → Type 0) (s : Shape) (f : Floats) (n : Numbers) (f' : Floats) (n' : Numbers) (z : Outcome) (cnt : ℕ) : Type 0 where
+pub record TriesWave (P : Model → Type 0) (s : Context) (f : Floats) (n : Numbers) (f' : Floats) (n' : Numbers) (z : Outcome) (cnt : ℕ) : Type 0 where
   pub does : (M : Model) (o : List ℕ) (k : ℕ) (w : Work) → P M → Call M s → Shows M f n o w → Inv M (k + cnt) w → StepShown M f' n' o z (wave_rows M (take cnt o) w)
 
-pub wave_is : {P : Model → Type 0} {s : Shape} {f f' : Floats} {n n' : Numbers} {z y : Outcome} {cnt : ℕ} → TriesWave P s f n f' n' z cnt → z ≡ y → TriesWave P s f n f' n' y cnt
+pub wave_is : {P : Model → Type 0} {s : Context} {f f' : Floats} {n n' : Numbers} {z y : Outcome} {cnt : ℕ} → TriesWave P s f n f' n' z cnt → z ≡ y → TriesWave P s f n f' n' y cnt
 wave_is {P} {s} {f} {f'} {n} {n'} {cnt = cnt} t e = subst (λ (x : Outcome). TriesWave P s f n f' n' x cnt) e t
 
 rows_cons : (M : Model) (r : ℕ) (rs : List ℕ) (w : Work) → wave_rows M (r ∷ rs) w ≡ (wave_row M r w >>= λ w1. wave_rows M rs w1)
@@ -40,7 +40,7 @@ unfolding wave_rows
 rows_none M w = refl
 
 -- ---- the invariant is kept, with fewer rows to come after each
-pub inv_rows : {M : Model} {s : Shape} {k : ℕ} (rs : List ℕ) (w : Work) → Call M s → Below s.rows rs → Inv M (k + length rs) w → InvStep M k (wave_rows M rs w)
+pub inv_rows : {M : Model} {s : Context} {k : ℕ} (rs : List ℕ) (w : Work) → Call M s → Below s.rows rs → Inv M (k + length rs) w → InvStep M k (wave_rows M rs w)
 unfolding wave_rows
 inv_rows {M} {s} {k} [] w c b i = goes (subst (λ (j : ℕ). Inv M j w) (omega arith) i)
 inv_rows {M} {s} {k} (r ∷ rs) w c b i =
@@ -54,14 +54,14 @@ passes_rows M [] w = same refl
 passes_rows M (r ∷ rs) w = same_then (λ w1. wave_rows M rs w1) (passes_row M r w) (λ u. passes_rows M rs u)
 
 -- ---- the rows from i on are left
-pub record Passing (P : Model → Type 0) (s : Shape) (f₀ : Floats) (n₀ : Numbers) (f : Floats) (n : Numbers) (cnt i : ℕ) : Type 0 where
+pub record Passing (P : Model → Type 0) (s : Context) (f₀ : Floats) (n₀ : Numbers) (f : Floats) (n : Numbers) (cnt i : ℕ) : Type 0 where
   pub each : (M : Model) (o : List ℕ) (k : ℕ) (w : Work) → P M → Call M s → Shows M f₀ n₀ o w → Inv M (k + cnt) w
       → Onward M f n o (k + (cnt - i)) (λ u. wave_rows M (drop i (take cnt o)) u ≡ wave_rows M (take cnt o) w)
 
-pub passing_start : {P : Model → Type 0} {s : Shape} {f : Floats} {n : Numbers} {cnt : ℕ} → Passing P s f n f n cnt 0
+pub passing_start : {P : Model → Type 0} {s : Context} {f : Floats} {n : Numbers} {cnt : ℕ} → Passing P s f n f n cnt 0
 passing_start = record { each = λ M o k w q c h i. record { work = w; shows = h; inv = subst (λ (j : ℕ). Inv M j w) (omega arith) i; holds = refl } }
 
-module _ {P : Model → Type 0} {s : Shape} {f₀ f : Floats} {n₀ n : Numbers} {cnt i : ℕ} (R : ReadyWave P s f₀ n₀ cnt) (l : length n₀.wave ≡ s.rows) (T : Passing P s f₀ n₀ f n cnt i) where
+module _ {P : Model → Type 0} {s : Context} {f₀ f : Floats} {n₀ n : Numbers} {cnt i : ℕ} (R : ReadyWave P s f₀ n₀ cnt) (l : length n₀.wave ≡ s.rows) (T : Passing P s f₀ n₀ f n cnt i) where
   passed_here : Onward R.ready.model f n R.ready.other (R.ready.left - cnt + (cnt - i))
       (λ u. wave_rows R.ready.model (drop i (take cnt R.ready.other)) u ≡ wave_rows R.ready.model (take cnt R.ready.other) R.ready.work)
   passed_here =
@@ -104,7 +104,7 @@ left_is {M} {o = o} {u} {cnt} {i} {r} il lt er g =
     let e : get_or rs i 0 ≡ r = get_or-take cnt o i 0 il ∙ ap (λ (d : List ℕ). get_or d i 0) (sym g.wave) ∙ sym er in
     ap (λ (d : List ℕ). wave_rows M d u) (drop-cons rs i 0 (omega (arith, il, lt)) ∙ ap (λ (x : ℕ). x ∷ drop (suc i) rs) e) ∙ rows_cons M r (drop (suc i) rs) u
 
-module _ {P : Model → Type 0} {s : Shape} {f₀ f : Floats} {n₀ n : Numbers} {cnt i : ℕ} (l : length n₀.wave ≡ s.rows) (lc : cnt ≤ s.rows) (T : Passing P s f₀ n₀ f n cnt i) where
+module _ {P : Model → Type 0} {s : Context} {f₀ f : Floats} {n₀ n : Numbers} {cnt i : ℕ} (l : length n₀.wave ≡ s.rows) (lc : cnt ≤ s.rows) (T : Passing P s f₀ n₀ f n cnt i) where
   module _ {f' : Floats} {n' : Numbers} {r : ℕ} (p : r < s.rows) (il : i < cnt) (er : r ≡ get_or n.wave i 0) where
     pub passing_turn : TriesRow P s f n f' n' (Ok tt) (λ M. wave_row M r) → Passing P s f₀ n₀ f' n' cnt (i + 1)
     passing_turn t =

@@ -10,22 +10,27 @@ ghost use Rattle.wave.specs.Begin.{Waves};
 
 use crate::primal::primal_wave;
 use definition::Infeasible;
-use space::{Passes, Queued, Shape};
+use space::{Context, Passes, Queued};
 use view::Lists;
 
 // = waves, as many as are left
-pub fn waves(lists: Lists, w: &mut [f64], m: &mut [usize], s: Shape) -> Result<(), Infeasible>
-    requires holds_f { HoldsF s w.old × HoldsN s m.old }
-    requires ready { Ready (Known lists) s (floats_of s w.old) (numbers_of s m.old) }
-    ensures { Waves (Known lists.entry) s (floats_of s w.old) (numbers_of s m.old) (floats_of s w.new) (numbers_of s m.new) result
+pub fn waves(
+    lists: Lists,
+    floats: &mut [f64],
+    numbers: &mut [usize],
+    cx: Context,
+) -> Result<(), Infeasible>
+    requires holds_f { HoldsF cx floats.old × HoldsN cx numbers.old }
+    requires ready { Ready (Known lists) cx (floats_of cx floats.old) (numbers_of cx numbers.old) }
+    ensures { Waves (Known lists.entry) cx (floats_of cx floats.old) (numbers_of cx numbers.old) (floats_of cx floats.new) (numbers_of cx numbers.new) result
         (λ M u. definition.waves M (max_waves M.params - u.counts.passes) u) }
 {
     let cap = formulas::max_waves();
-    for p in space::get::<Passes>(m, s, 0)..cap {
-        if space::get::<Queued>(m, s, 0) == 0 {
+    for p in space::get::<Passes>(numbers, cx, 0)..cap {
+        if space::get::<Queued>(numbers, cx, 0) == 0 {
             return Ok(());
         }
-        primal_wave(lists, w, m, s)?;
+        primal_wave(lists, floats, numbers, cx)?;
     }
     Ok(())
 }

@@ -7,26 +7,26 @@ ghost use Rattle.view.specs.Known.{Known};
 ghost use Rattle.wave.specs.Row.{ReadyRow, TriesRow};
 
 use definition::Infeasible;
-use space::{Alive, Dirty, Shape};
+use space::{Alive, Context, Dirty};
 use view::Lists;
 
 // = wave_row
 pub(crate) fn wave_row(
     lists: Lists,
-    w: &mut [f64],
-    m: &mut [usize],
-    s: Shape,
+    floats: &mut [f64],
+    numbers: &mut [usize],
+    cx: Context,
     r: usize,
 ) -> Result<(), Infeasible>
-    requires r_lt_rows { (r < s.rows) × HoldsF s w.old × HoldsN s m.old }
-    requires ready_row { ReadyRow (Known lists) s (floats_of s w.old) (numbers_of s m.old) }
-    ensures { TriesRow (Known lists.entry) s (floats_of s w.old) (numbers_of s m.old) (floats_of s w.new) (numbers_of s m.new) result
+    requires r_lt_rows { (r < cx.rows) × HoldsF cx floats.old × HoldsN cx numbers.old }
+    requires ready_row { ReadyRow (Known lists) cx (floats_of cx floats.old) (numbers_of cx numbers.old) }
+    ensures { TriesRow (Known lists.entry) cx (floats_of cx floats.old) (numbers_of cx numbers.old) (floats_of cx floats.new) (numbers_of cx numbers.new) result
         (λ M. wave_row M r) }
 {
-    space::put::<Dirty>(m, s, r, 0);
-    if space::get::<Alive>(m, s, r) == 1 {
-        folds::fold_row(lists.rows, w, m, s, r);
-        return several::by_count(lists, w, m, s, r);
+    space::put::<Dirty>(numbers, cx, r, 0);
+    if space::get::<Alive>(numbers, cx, r) == 1 {
+        folds::fold_row(lists.rows, floats, numbers, cx, r);
+        return several::by_count(lists, floats, numbers, cx, r);
     }
     Ok(())
 }

@@ -12,25 +12,25 @@ ghost use Rattle.wave.specs.Begin.{Waves};
 use crate::one_row::wave_row;
 use crate::queue::copy_queue;
 use definition::Infeasible;
-use space::{Passes, Queued, Shape, Wave};
+use space::{Context, Passes, Queued, Wave};
 use view::Lists;
 
 // = wave_rows, over the n rows that stand in the block of the wave's rows
 fn wave_rows(
     lists: Lists,
-    w: &mut [f64],
-    m: &mut [usize],
-    s: Shape,
+    floats: &mut [f64],
+    numbers: &mut [usize],
+    cx: Context,
     n: usize,
 ) -> Result<(), Infeasible>
-    requires holds_f { HoldsF s w.old × HoldsN s m.old }
-    requires ready_wave { ReadyWave (Known lists) s (floats_of s w.old) (numbers_of s m.old) n }
-    ensures { TriesWave (Known lists.entry) s (floats_of s w.old) (numbers_of s m.old) (floats_of s w.new)
-        (numbers_of s m.new) result n }
+    requires holds_f { HoldsF cx floats.old × HoldsN cx numbers.old }
+    requires ready_wave { ReadyWave (Known lists) cx (floats_of cx floats.old) (numbers_of cx numbers.old) n }
+    ensures { TriesWave (Known lists.entry) cx (floats_of cx floats.old) (numbers_of cx numbers.old) (floats_of cx floats.new)
+        (numbers_of cx numbers.new) result n }
 {
     for i in 0..n {
-        let r = space::get::<Wave>(m, s, i);
-        wave_row(lists, w, m, s, r)?;
+        let r = space::get::<Wave>(numbers, cx, i);
+        wave_row(lists, floats, numbers, cx, r)?;
     }
     Ok(())
 }
@@ -38,19 +38,19 @@ fn wave_rows(
 // = wave
 pub(crate) fn primal_wave(
     lists: Lists,
-    w: &mut [f64],
-    m: &mut [usize],
-    s: Shape,
+    floats: &mut [f64],
+    numbers: &mut [usize],
+    cx: Context,
 ) -> Result<(), Infeasible>
-    requires holds_f { HoldsF s w.old × HoldsN s m.old × (get_or (numbers_of s m.old).passes 0 0 < 30) }
-    requires ready { Ready (Known lists) s (floats_of s w.old) (numbers_of s m.old) }
-    ensures { Waves (Known lists.entry) s (floats_of s w.old) (numbers_of s m.old) (floats_of s w.new) (numbers_of s m.new) result
+    requires holds_f { HoldsF cx floats.old × HoldsN cx numbers.old × (get_or (numbers_of cx numbers.old).passes 0 0 < 30) }
+    requires ready { Ready (Known lists) cx (floats_of cx floats.old) (numbers_of cx numbers.old) }
+    ensures { Waves (Known lists.entry) cx (floats_of cx floats.old) (numbers_of cx numbers.old) (floats_of cx floats.new) (numbers_of cx numbers.new) result
         definition.wave }
 {
-    let n = space::get::<Queued>(m, s, 0);
-    copy_queue(m, s, n);
-    space::put::<Queued>(m, s, 0, 0);
-    let p = space::get::<Passes>(m, s, 0);
-    space::put::<Passes>(m, s, 0, p + 1);
-    wave_rows(lists, w, m, s, n)
+    let n = space::get::<Queued>(numbers, cx, 0);
+    copy_queue(numbers, cx, n);
+    space::put::<Queued>(numbers, cx, 0, 0);
+    let p = space::get::<Passes>(numbers, cx, 0);
+    space::put::<Passes>(numbers, cx, 0, p + 1);
+    wave_rows(lists, floats, numbers, cx, n)
 }

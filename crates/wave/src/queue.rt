@@ -4,15 +4,15 @@ ghost use Rattle.std.specs.Prelude.{◌≤◌};
 ghost use Rattle.space.specs.Store.{numbers_of, HoldsN};
 ghost use Rattle.wave.specs.Begin.{Copied};
 
-use space::{Queue, Shape, Wave};
+use space::{Context, Queue, Wave};
 
 // No `copy_within`: space alone knows where a block stands.
-pub(crate) fn copy_queue(m: &mut [usize], s: Shape, n: usize)
-    requires { (n ≤ s.rows) × HoldsN s m.old }
-    ensures { Copied (numbers_of s m.old) (numbers_of s m.new) n }
+pub(crate) fn copy_queue(numbers: &mut [usize], cx: Context, n: usize)
+    requires { (n ≤ cx.rows) × HoldsN cx numbers.old }
+    ensures { Copied (numbers_of cx numbers.old) (numbers_of cx numbers.new) n }
 {
     for i in 0..n {
-        let r = space::get::<Queue>(m, s, i);
-        space::put::<Wave>(m, s, i, r);
+        let r = space::get::<Queue>(numbers, cx, i);
+        space::put::<Wave>(numbers, cx, i, r);
     }
 }

@@ -8,5 +8,5 @@ use Rattle.implied.specs.Loop.{Implying}
 use Rattle.implied.proofs.implied_bounds.Given as goal
 
 abbrev pub invariant-loop-i : goal.invariant-loop-i
-invariant-loop-i l = (length l.w ≡ length l.initial.w) × (length l.m ≡ length l.initial.m)
-    × Turning (Moves l.lists) l.s (floats_of l.s l.initial.w) (numbers_of l.s l.initial.m) (floats_of l.s l.w) (numbers_of l.s l.m) (Implying l.r l.act l.i)
+invariant-loop-i l = (length l.floats ≡ length l.initial.floats) × (length l.numbers ≡ length l.initial.numbers)
+    × Turning (Moves l.lists) l.cx (floats_of l.cx l.initial.floats) (numbers_of l.cx l.initial.numbers) (floats_of l.cx l.floats) (numbers_of l.cx l.numbers) (Implying l.r l.act l.i)

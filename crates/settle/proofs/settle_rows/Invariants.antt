@@ -5,4 +5,4 @@ use Rattle.settle.specs.Settling.{Settling}
 use Rattle.settle.proofs.settle_rows.Given as goal
 
 abbrev pub invariant-loop-r : goal.invariant-loop-r
-invariant-loop-r l = Settling (Written l.rows) l.s (floats_of l.s l.initial.w) (numbers_of l.s l.initial.m) (floats_of l.s l.w) (numbers_of l.s l.m) l.r
+invariant-loop-r l = Settling (Written l.rows) l.cx (floats_of l.cx l.initial.floats) (numbers_of l.cx l.initial.numbers) (floats_of l.cx l.floats) (numbers_of l.cx l.numbers) l.r

@@ -4,4 +4,4 @@ use Rattle.begin.specs.Reading.{clear_end}
 use Rattle.begin.proofs.reading.clear.Goals as goal
 
 pub returns : goal.returns
-returns c = clear_end (numbers_of c.args.s c.args.m.now) c.put.ensures c.put-2.ensures c.put-3.ensures c.put-4.ensures c.put-5.ensures c.put-6.ensures
+returns c = clear_end (numbers_of c.args.cx c.args.numbers.now) c.put.ensures c.put-2.ensures c.put-3.ensures c.put-4.ensures c.put-5.ensures c.put-6.ensures

@@ -5,4 +5,4 @@ use Rattle.begin.specs.Reading.{ReadInv}
 use Rattle.begin.proofs.reading.read_rows.Given as goal
 
 abbrev pub invariant-loop-r : goal.invariant-loop-r
-invariant-loop-r l = ReadInv (Written l.rows) l.s l.r (floats_of l.s l.initial.w) (floats_of l.s l.w) (numbers_of l.s l.m)
+invariant-loop-r l = ReadInv (Written l.rows) l.cx l.r (floats_of l.cx l.initial.floats) (floats_of l.cx l.floats) (numbers_of l.cx l.numbers)

@@ -4,4 +4,4 @@ use Rattle.begin.specs.Reading.{skip_end}
 use Rattle.begin.proofs.reading.skip_row.Goals as goal
 
 pub returns : goal.returns
-returns c = skip_end _ (numbers_of c.args.s c.args.m.now) c.put.ensures c.put-2.ensures c.put-3.ensures c.count.ensures
+returns c = skip_end _ (numbers_of c.args.cx c.args.numbers.now) c.put.ensures c.put-2.ensures c.put-3.ensures c.count.ensures

@@ -4,4 +4,4 @@ use Rattle.begin.specs.Rounding.{RoundInv}
 use Rattle.begin.proofs.rounding.round_vars.Given as goal
 
 abbrev pub invariant-loop-v : goal.invariant-loop-v
-invariant-loop-v l = RoundInv l.input l.s l.v (floats_of l.s l.w)
+invariant-loop-v l = RoundInv l.input l.cx l.v (floats_of l.cx l.floats)

@@ -5,8 +5,8 @@ use Rattle.bounds.proofs.bounds.emit_bounds.Goals.{then-emits_tighter, else-emit
 
 pub returns : goal.returns
 returns c = elim c.if-emits_tighter.branch [
-  | then-emits_tighter w ↦ rw w.m-is (emit_tighter _ _ _ c.get-elo.ensures c.get-ehi.ensures c.emits_tighter.ensures w.if-emits_tighter.true
+  | then-emits_tighter w ↦ rw w.numbers-is (emit_tighter _ _ _ c.get-elo.ensures c.get-ehi.ensures c.emits_tighter.ensures w.if-emits_tighter.true
       w.mark_tightened.ensures c.put_emitted.ensures)
-  | else-emits_tighter w ↦ rw w.m-is (emit_same _ _ _ c.get-elo.ensures c.get-ehi.ensures c.emits_tighter.ensures w.if-emits_tighter.false
+  | else-emits_tighter w ↦ rw w.numbers-is (emit_same _ _ _ c.get-elo.ensures c.get-ehi.ensures c.emits_tighter.ensures w.if-emits_tighter.false
       c.put_emitted.ensures)
 ]

@@ -7,6 +7,6 @@ use Rattle.view.specs.Marks.{RowsInv}
 use Rattle.bounds.proofs.marks.mark_var.Given as goal
 
 abbrev pub invariant-loop-r : goal.invariant-loop-r
-invariant-loop-r l = (length l.m ≡ length l.initial.m)
-    × RowsInv l.s l.r-items 0 (length l.r-items) l.r-index (numbers_of l.s l.initial.m) (numbers_of l.s l.m)
-    × FlagsKept (numbers_of l.s l.initial.m) (numbers_of l.s l.m)
+invariant-loop-r l = (length l.numbers ≡ length l.initial.numbers)
+    × RowsInv l.cx l.r-items 0 (length l.r-items) l.r-index (numbers_of l.cx l.initial.numbers) (numbers_of l.cx l.numbers)
+    × FlagsKept (numbers_of l.cx l.initial.numbers) (numbers_of l.cx l.numbers)

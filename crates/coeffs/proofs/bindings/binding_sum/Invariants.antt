@@ -6,5 +6,5 @@ use Rattle.coeffs.specs.Bound.{bind_from, bind_all}
 use Rattle.coeffs.proofs.bindings.binding_sum.Given as goal
 
 abbrev pub invariant-loop-k : goal.invariant-loop-k
-invariant-loop-k l = Over (Written l.rows) l.s (floats_of l.s l.w) (numbers_of l.s l.m) l.r l.k l.d (bind_from l.r)
+invariant-loop-k l = Over (Written l.rows) l.cx (floats_of l.cx l.floats) (numbers_of l.cx l.numbers) l.r l.k l.d (bind_from l.r)
     (bind_all l.r l.b)

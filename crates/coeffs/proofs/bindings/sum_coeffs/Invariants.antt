@@ -6,4 +6,4 @@ use Rattle.coeffs.specs.Bound.{sum_from, sum_all}
 use Rattle.coeffs.proofs.bindings.sum_coeffs.Given as goal
 
 abbrev pub invariant-loop-k : goal.invariant-loop-k
-invariant-loop-k l = Over (Spans l.starts) l.s (floats_of l.s l.w) (numbers_of l.s l.m) l.r l.k l.sum (sum_from l.r) (sum_all l.r)
+invariant-loop-k l = Over (Spans l.starts) l.cx (floats_of l.cx l.floats) (numbers_of l.cx l.numbers) l.r l.k l.sum (sum_from l.r) (sum_all l.r)

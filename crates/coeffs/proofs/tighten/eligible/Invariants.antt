@@ -5,4 +5,4 @@ use Rattle.coeffs.specs.Eligible.{Counting}
 use Rattle.coeffs.proofs.tighten.eligible.Given as goal
 
 abbrev pub invariant-loop-i : goal.invariant-loop-i
-invariant-loop-i l = Counting l.domain l.starts l.s (floats_of l.s l.w) (numbers_of l.s l.m) (maybe_form l.x.form) l.x.room l.x.act l.r l.i l.n
+invariant-loop-i l = Counting l.domain l.starts l.cx (floats_of l.cx l.floats) (numbers_of l.cx l.numbers) (maybe_form l.x.form) l.x.room l.x.act l.r l.i l.n

@@ -6,4 +6,4 @@ use Rattle.dual.specs.Barring.{Rows}
 use Rattle.dual.proofs.blocks.block_rows.Given as goal
 
 abbrev pub invariant-loop-r : goal.invariant-loop-r
-invariant-loop-r l = (length l.m ≡ length l.initial.m) × Rows l.starts l.s l.r (floats_of l.s l.w) (numbers_of l.s l.initial.m) (numbers_of l.s l.m)
+invariant-loop-r l = (length l.numbers ≡ length l.initial.numbers) × Rows l.starts l.cx l.r (floats_of l.cx l.floats) (numbers_of l.cx l.initial.numbers) (numbers_of l.cx l.numbers)

@@ -6,4 +6,4 @@ use Rattle.dual.specs.Barring.{Barring}
 use Rattle.dual.proofs.blocks.block_terms.Given as goal
 
 abbrev pub invariant-loop-i : goal.invariant-loop-i
-invariant-loop-i l = (length l.m ≡ length l.initial.m) × Barring l.s l.a l.k l.i l.ge l.le (floats_of l.s l.w) (numbers_of l.s l.initial.m) (numbers_of l.s l.m)
+invariant-loop-i l = (length l.numbers ≡ length l.initial.numbers) × Barring l.cx l.a l.k l.i l.ge l.le (floats_of l.cx l.floats) (numbers_of l.cx l.initial.numbers) (numbers_of l.cx l.numbers)

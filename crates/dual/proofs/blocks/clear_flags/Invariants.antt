@@ -6,4 +6,4 @@ use Rattle.dual.specs.Flags.{Clearing}
 use Rattle.dual.proofs.blocks.clear_flags.Given as goal
 
 abbrev pub invariant-loop-v : goal.invariant-loop-v
-invariant-loop-v l = (length l.m ≡ length l.initial.m) × Clearing l.s l.v (numbers_of l.s l.initial.m) (numbers_of l.s l.m)
+invariant-loop-v l = (length l.numbers ≡ length l.initial.numbers) × Clearing l.cx l.v (numbers_of l.cx l.initial.numbers) (numbers_of l.cx l.numbers)

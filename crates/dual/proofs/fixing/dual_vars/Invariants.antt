@@ -6,5 +6,5 @@ use Rattle.dual.specs.Fixing.{Vars}
 use Rattle.dual.proofs.fixing.dual_vars.Given as goal
 
 abbrev pub invariant-loop-v : goal.invariant-loop-v
-invariant-loop-v l = (length l.w ≡ length l.initial.w) × (length l.m ≡ length l.initial.m)
-    × Vars l.obj l.lists l.s l.v l.changed (floats_of l.s l.initial.w) (numbers_of l.s l.initial.m) (floats_of l.s l.w) (numbers_of l.s l.m)
+invariant-loop-v l = (length l.floats ≡ length l.initial.floats) × (length l.numbers ≡ length l.initial.numbers)
+    × Vars l.obj l.lists l.cx l.v l.changed (floats_of l.cx l.initial.floats) (numbers_of l.cx l.initial.numbers) (floats_of l.cx l.floats) (numbers_of l.cx l.numbers)

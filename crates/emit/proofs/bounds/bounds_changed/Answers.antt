@@ -10,6 +10,6 @@ use Rattle.emit.proofs.bounds.bounds_changed.Goals as goal
 
 pub returns : goal.returns
 returns c =
-    any_from_yields_List (differs (floats_of c.args.s c.args.w.now).elo c.args.lower.now (floats_of c.args.s c.args.w.now).ehi c.args.upper.now) c.any.new.self _ _ c.any.ensures.ran
-    (YieldsList-from_range 0 c.args.s.vars c.args.s.vars refl (omega arith)) (λ x b q k. search (rules, tests))
-    ∙ any_differs {n = c.args.s.vars} c.args.s.vars 0 (omega arith) (search (same_start, elo_length)) (search (same_start, ehi_length))
+    any_from_yields_List (differs (floats_of c.args.cx c.args.floats.now).elo c.args.lower.now (floats_of c.args.cx c.args.floats.now).ehi c.args.upper.now) c.any.new.self _ _ c.any.ensures.ran
+    (YieldsList-from_range 0 c.args.cx.vars c.args.cx.vars refl (omega arith)) (λ x b q k. search (rules, tests))
+    ∙ any_differs {n = c.args.cx.vars} c.args.cx.vars 0 (omega arith) (search (same_start, elo_length)) (search (same_start, ehi_length))

@@ -4,4 +4,4 @@ use Rattle.space.specs.Store.{floats_of}
 use Rattle.emit.proofs.bounds.write_bounds.Given as goal
 
 abbrev pub invariant-loop-v : goal.invariant-loop-v
-invariant-loop-v l = Copied (floats_of l.s l.w).elo l.initial.lower l.s.vars l.v l.lower × Copied (floats_of l.s l.w).ehi l.initial.upper l.s.vars l.v l.upper
+invariant-loop-v l = Copied (floats_of l.cx l.floats).elo l.initial.lower l.cx.vars l.v l.lower × Copied (floats_of l.cx l.floats).ehi l.initial.upper l.cx.vars l.v l.upper

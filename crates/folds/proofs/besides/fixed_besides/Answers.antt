@@ -23,7 +23,7 @@ fixed_term-sum-requires-clause-i_bound c =
     let e = get_or c.args.starts.now (c.args.r + 1) 0 in
     let i = c.loop-i.i in
     let x : i - 1 ≡ e - (e - i + 1) = omega arith in
-    folded_in c.requires.r_lt_rows.0 c.requires.standing (e - i) (omega arith) (ap (λ k. get_or (numbers_of c.args.s c.args.m.now).vars k 0) x)
+    folded_in c.requires.r_lt_rows.0 c.requires.standing (e - i) (omega arith) (ap (λ k. get_or (numbers_of c.args.cx c.args.numbers.now).vars k 0) x)
 
 pub loop-i-preserved : goal.loop-i-preserved
 loop-i-preserved c =

@@ -5,4 +5,4 @@ use Rattle.folds.specs.Besides.{listed, Summed}
 use Rattle.folds.proofs.besides.fixed_besides.Given as goal
 
 abbrev pub invariant-loop-i : goal.invariant-loop-i
-invariant-loop-i l = (l.e - l.n ≤ l.i) × Summed l.starts l.s l.r (listed l.a l.k (numbers_of l.s l.m).binary) (floats_of l.s l.w) (numbers_of l.s l.m) (l.e - l.i) l.sum
+invariant-loop-i l = (l.e - l.n ≤ l.i) × Summed l.starts l.cx l.r (listed l.a l.k (numbers_of l.cx l.numbers).binary) (floats_of l.cx l.floats) (numbers_of l.cx l.numbers) (l.e - l.i) l.sum

@@ -15,5 +15,5 @@ pub has_among-requires : goal.has_among-requires
 has_among-requires c = (omega (arith, binaries_in c.requires.r_lt_rows.0 c.requires.standing_n.standing, c.get.ensures), search rules)
 
 pub returns : goal.returns
-returns c = has_binary_end (numbers_of c.args.s c.args.m.now) c.args.v c.requires.r_lt_rows.0
+returns c = has_binary_end (numbers_of c.args.cx c.args.numbers.now) c.args.v c.requires.r_lt_rows.0
     (binary_length _ _ c.requires.r_lt_rows.1) refl c.get.ensures c.has_among.ensures

@@ -4,4 +4,4 @@ use Rattle.folds.specs.FoldLoop.{Turned}
 use Rattle.folds.proofs.folding.fold_loop.Given as goal
 
 abbrev pub invariant-loop-turn : goal.invariant-loop-turn
-invariant-loop-turn l = Turned l.starts l.s l.r l.terms l.at l._turn (floats_of l.s l.initial.w) (numbers_of l.s l.initial.m) (floats_of l.s l.w) (numbers_of l.s l.m)
+invariant-loop-turn l = Turned l.starts l.cx l.r l.terms l.at l._turn (floats_of l.cx l.initial.floats) (numbers_of l.cx l.initial.numbers) (floats_of l.cx l.floats) (numbers_of l.cx l.numbers)

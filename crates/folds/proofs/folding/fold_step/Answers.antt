@@ -43,7 +43,7 @@ pub push_folded-requires : goal.push_folded-requires
 push_folded-requires c = record {
   r_lt_rows = search rules;
   r_bound = (
-    push_in c.requires.r_lt_rows.0 c.requires.standing _ _ _ (omega arith) c.swap_remove-then-fixed.ensures.m_after,
+    push_in c.requires.r_lt_rows.0 c.requires.standing _ _ _ (omega arith) c.swap_remove-then-fixed.ensures.numbers_after,
     search stop_in,
   );
 }
@@ -54,9 +54,9 @@ shift_sides-requires c = search rules
 pub returns-then-fixed : goal.returns-then-fixed
 returns-then-fixed c = fold_fixed_term _ _ _ _ c.requires.r_lt_rows.0 (sized _ _ _ c.requires.r_lt_rows.1 c.requires.r_lt_rows.2) refl c.requires.at_bound
     c.get-v.ensures c.get-x.ensures c.if-x.false
-    c.fixed.ensures c.if-fixed.true c.get.ensures c.swap_remove-then-fixed.ensures.w_after
-    c.swap_remove-then-fixed.ensures.m_after (sized _ _ _ (omega arith) (omega arith)) refl c.push_folded.ensures.w_after
-    c.push_folded.ensures.m_after (sized _ _ _ (omega arith) (omega arith)) c.shift_sides.ensures
+    c.fixed.ensures c.if-fixed.true c.get.ensures c.swap_remove-then-fixed.ensures.floats_after
+    c.swap_remove-then-fixed.ensures.numbers_after (sized _ _ _ (omega arith) (omega arith)) refl c.push_folded.ensures.floats_after
+    c.push_folded.ensures.numbers_after (sized _ _ _ (omega arith) (omega arith)) c.shift_sides.ensures
 
 pub overflow_add-result : goal.overflow_add-result
 overflow_add-result c = omega (arith, c.requires.at_bound, live_in c.requires.r_lt_rows.0 c.requires.standing, c.requires.r_lt_rows.1)

@@ -21,18 +21,18 @@ fold_fixed-hold_rewrites-requires t c = (
 )
 
 pub fold_fixed-returns-then-before-after : goal.fold_fixed-returns-then-before-after
-fold_fixed-returns-then-before-after t c = fold_more (floats_of c.args.s c.args.w.now) (numbers_of c.args.s c.args.m.now) c.get-before.ensures
+fold_fixed-returns-then-before-after t c = fold_more (floats_of c.args.cx c.args.floats.now) (numbers_of c.args.cx c.args.numbers.now) c.get-before.ensures
     (turns_under written_spans c.fold_loop.ensures) c.get-after.ensures c.if-before-after.true
     (turns_under written_spans c.relax_binding.ensures) c.hold_rewrites.ensures
 
 pub fold_fixed-returns-else-before-after : goal.fold_fixed-returns-else-before-after
-fold_fixed-returns-else-before-after t c = fold_less (floats_of c.args.s c.args.w.now) (numbers_of c.args.s c.args.m.now) c.get-before.ensures
+fold_fixed-returns-else-before-after t c = fold_less (floats_of c.args.cx c.args.floats.now) (numbers_of c.args.cx c.args.numbers.now) c.get-before.ensures
     (turns_under written_spans c.fold_loop.ensures) c.get-after.ensures c.if-before-after.false
 
 pub hold_rewrites-returns-then-get-eq0 : goal.hold_rewrites-returns-then-get-eq0
 hold_rewrites-returns-then-get-eq0 t c =
-    let f = floats_of c.args.s c.args.w.now in
-    let n = numbers_of c.args.s c.args.m.now in
+    let f = floats_of c.args.cx c.args.floats.now in
+    let n = numbers_of c.args.cx c.args.numbers.now in
     elim c.then-get-eq0.branch [
       | hold_rewrites-then-get-eq0-via-then-get-eq0 w ↦ hold_none f n c.get.ensures w.if-get-eq0.true
       | hold_rewrites-then-get-eq0-via-else-get-eq0+then-is_finite w ↦ hold_lo f n c.get.ensures w.get-else-get-eq0.ensures w.is_finite.ensures w.if-is_finite.true
@@ -50,6 +50,6 @@ hold_rewrites-fold_fixed-requires t c = (
 )
 
 pub hold_rewrites-returns : goal.hold_rewrites-returns
-hold_rewrites-returns t c = hold_back (floats_of c.args.s c.args.w.now) (numbers_of c.args.s c.args.m.now) c.get.ensures c.get-else-get-eq0.ensures
+hold_rewrites-returns t c = hold_back (floats_of c.args.cx c.args.floats.now) (numbers_of c.args.cx c.args.numbers.now) c.get.ensures c.get-else-get-eq0.ensures
     c.is_finite.ensures c.get-else-is_finite.ensures c.is_finite-else-is_finite.ensures c.requires.r_lt_rows.0 c.if-get-eq0.false c.if-is_finite.false
     c.if-is_finite-2.false c.as_written.ensures c.fold_fixed.ensures

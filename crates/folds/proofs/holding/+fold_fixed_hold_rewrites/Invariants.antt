@@ -5,7 +5,7 @@ use Rattle.folds.specs.Holding.{weight}
 use Rattle.folds.proofs.holding.+fold_fixed_hold_rewrites.Given as goal
 
 abbrev pub decreases-fold_fixed : goal.decreases-fold_fixed
-decreases-fold_fixed l = weight (get_or (numbers_of l.s l.m.now).binaries l.r 0) + 1
+decreases-fold_fixed l = weight (get_or (numbers_of l.cx l.numbers.now).binaries l.r 0) + 1
 
 abbrev pub decreases-hold_rewrites : goal.decreases-hold_rewrites
-decreases-hold_rewrites l = weight (get_or (numbers_of l.s l.m.now).binaries l.r 0)
+decreases-hold_rewrites l = weight (get_or (numbers_of l.cx l.numbers.now).binaries l.r 0)

@@ -8,7 +8,7 @@ pub returns-then-get-eq0 : goal.returns-then-get-eq0
 returns-then-get-eq0 c = search relax_none
 
 pub returns-then-kept-old : goal.returns-then-kept-old
-returns-then-kept-old c = relax_more (floats_of c.args.s c.args.w.now) (numbers_of c.args.s c.args.m.now) c.requires.r_lt_rows.0
+returns-then-kept-old c = relax_more (floats_of c.args.cx c.args.floats.now) (numbers_of c.args.cx c.args.numbers.now) c.requires.r_lt_rows.0
     c.get.ensures c.if-get-eq0.false c.fixed_besides-fixed.ensures
     c.get-written.ensures c.get-rewritten.ensures
     c.rewrite_room-kept.ensures c.get-old.ensures (kept_length _ _ c.requires.r_lt_rows.1)

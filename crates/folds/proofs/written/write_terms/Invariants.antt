@@ -4,4 +4,4 @@ use Rattle.folds.specs.Written.{Copied}
 use Rattle.folds.proofs.written.write_terms.Given as goal
 
 abbrev pub invariant-loop-i : goal.invariant-loop-i
-invariant-loop-i l = Copied l.rows.index.now l.rows.coeff.now l.a l.i (floats_of l.s l.initial.w) (numbers_of l.s l.initial.m) (floats_of l.s l.w) (numbers_of l.s l.m)
+invariant-loop-i l = Copied l.rows.index.now l.rows.coeff.now l.a l.i (floats_of l.cx l.initial.floats) (numbers_of l.cx l.initial.numbers) (floats_of l.cx l.floats) (numbers_of l.cx l.numbers)

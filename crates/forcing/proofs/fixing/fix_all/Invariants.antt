@@ -8,5 +8,5 @@ use Rattle.forcing.specs.Fixing.{Fixing}
 use Rattle.forcing.proofs.fixing.fix_all.Given as goal
 
 abbrev pub invariant-loop-i : goal.invariant-loop-i
-invariant-loop-i l = (length l.w ≡ length l.initial.w) × (length l.m ≡ length l.initial.m)
-    × Turning (Marks l.lists) l.s (floats_of l.s l.initial.w) (numbers_of l.s l.initial.m) (floats_of l.s l.w) (numbers_of l.s l.m) (Fixing l.r l.minCorner l.i)
+invariant-loop-i l = (length l.floats ≡ length l.initial.floats) × (length l.numbers ≡ length l.initial.numbers)
+    × Turning (Marks l.lists) l.cx (floats_of l.cx l.initial.floats) (numbers_of l.cx l.initial.numbers) (floats_of l.cx l.floats) (numbers_of l.cx l.numbers) (Fixing l.r l.minCorner l.i)

@@ -16,7 +16,7 @@ all-requires-clause-callable c =
     let at = c.requires.r_lt_rows in
     let ready = c.requires.ready in
     let small = live_small ready looks_spans at.0 at.3 c.get.ensures m in
-    let len : i < get_or (numbers_of c.args.s c.args.m.now).len c.args.r 0 = omega (arith, m, c.get.ensures) in
+    let len : i < get_or (numbers_of c.args.cx c.args.numbers.now).len c.args.r 0 = omega (arith, m, c.get.ensures) in
     let place = live_place ready looks_spans at.0 at.3 len in (
       search (arith, small),
       search place,
@@ -31,7 +31,7 @@ all-requires-clause-callable c =
 -- `c` is hidden from two searches, which then reach all that a turn's calls say
 pub returns : goal.returns
 returns c =
-    let is : Bool → ℕ → Type 0 = Told c.args.lists c.args.s (floats_of c.args.s c.args.w.now) (numbers_of c.args.s c.args.m.now) c.args.r c.args.sliver.gap c.args.sliver.mag in
+    let is : Bool → ℕ → Type 0 = Told c.args.lists c.args.cx (floats_of c.args.cx c.args.floats.now) (numbers_of c.args.cx c.args.numbers.now) c.args.r c.args.sliver.gap c.args.sliver.mag in
     all_forced_is c.requires.r_lt_rows.0 c.requires.r_lt_rows.3 c.get.ensures _ _ _
     (cases_from_all c.all.new.self _ _ (is true) (is false) c.all.ensures.ran (YieldsList-from_range 0 c.get.result c.get.result refl (omega arith))
     (λ x q k. (search rules, let c : ℕ = 0 in search told_of)) (λ x q k. let c : ℕ = 0 in search told_of))

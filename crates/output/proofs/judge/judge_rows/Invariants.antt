@@ -7,5 +7,5 @@ use Rattle.emit.specs.Judging.{Judged}
 use Rattle.output.proofs.judge.judge_rows.Given as goal
 
 abbrev pub invariant-loop-r : goal.invariant-loop-r
-invariant-loop-r l = (length l.w ≡ length l.initial.w) × (length l.m ≡ length l.initial.m)
-    × Judged (Written l.rows) l.s (floats_of l.s l.initial.w) (numbers_of l.s l.initial.m) (floats_of l.s l.w) (numbers_of l.s l.m) l.r
+invariant-loop-r l = (length l.floats ≡ length l.initial.floats) × (length l.numbers ≡ length l.initial.numbers)
+    × Judged (Written l.rows) l.cx (floats_of l.cx l.initial.floats) (numbers_of l.cx l.initial.numbers) (floats_of l.cx l.floats) (numbers_of l.cx l.numbers) l.r

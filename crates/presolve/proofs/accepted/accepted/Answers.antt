@@ -14,14 +14,14 @@ reduce-requires c =
 pub stopped-requires : goal.stopped-requires
 stopped-requires c =
     let a = accept c.requires refl refl refl refl c.is_mip.ensures refl in
-    still_holds c.reduce.auto.m (holds_numbers c.args.input a)
+    still_holds c.reduce.auto.numbers (holds_numbers c.args.input a)
 
 pub finished-requires : goal.finished-requires
 finished-requires c =
     let i = c.args.input in
     let a = accept c.requires refl refl refl refl c.is_mip.ensures refl in
     record {
-      holds_f = (still_holds c.reduce.auto.w (holds_floats i a), still_holds c.reduce.auto.m (holds_numbers i a));
+      holds_f = (still_holds c.reduce.auto.floats (holds_floats i a), still_holds c.reduce.auto.numbers (holds_numbers i a));
       room = has_room i a;
       ready = ready_results i a (reduces_is c.reduce.ensures.reduces c.in-Ok.is);
     }
@@ -30,10 +30,10 @@ pub returns-in-Err-clause-promise : goal.returns-in-Err-clause-promise
 returns-in-Err-clause-promise c =
     let a = accept c.requires refl refl refl refl c.is_mip.ensures refl in
     promise_stopped c.args.input a (reduces_is c.reduce.ensures.reduces c.in-Err.is) c.stopped.ensures.result_value
-    (c.stopped.ensures.zeros ∙ same_space _ _ c.reduce.auto.w c.reduce.auto.m c.reduce.auto.adj)
+    (c.stopped.ensures.zeros ∙ same_space _ _ c.reduce.auto.floats c.reduce.auto.numbers c.reduce.auto.adjacency)
 
 pub returns-in-Ok-clause-promise : goal.returns-in-Ok-clause-promise
 returns-in-Ok-clause-promise c =
     let a = accept c.requires refl refl refl refl c.is_mip.ensures refl in
     promise_done c.args.input a (reduces_is c.reduce.ensures.reduces c.in-Ok.is) c.finished.ensures.finished
-    (c.finished.ensures.zeros ∙ same_space _ _ c.reduce.auto.w c.reduce.auto.m c.reduce.auto.adj)
+    (c.finished.ensures.zeros ∙ same_space _ _ c.reduce.auto.floats c.reduce.auto.numbers c.reduce.auto.adjacency)

@@ -4,4 +4,4 @@ use Rattle.presolve.specs.Steps.{same_space}
 use Rattle.presolve.proofs.ending.finished.Goals as goal
 
 pub returns-clause-zeros : goal.returns-clause-zeros
-returns-clause-zeros c = c.clear.ensures.zeros ∙ same_space _ _ c.write_results-reduced.auto.w c.write_results-reduced.auto.m refl
+returns-clause-zeros c = c.clear.ensures.zeros ∙ same_space _ _ c.write_results-reduced.auto.floats c.write_results-reduced.auto.numbers refl

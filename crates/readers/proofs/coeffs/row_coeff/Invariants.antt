@@ -6,7 +6,7 @@ use Rattle.readers.specs.Coeffs.{Seeking}
 use Rattle.readers.proofs.coeffs.row_coeff.Given as goal
 
 abbrev pub invariant-loop-s : goal.invariant-loop-s
-invariant-loop-s l = Seeking l.starts l.s (floats_of l.s l.w) (numbers_of l.s l.m) l.r l.v l.k
+invariant-loop-s l = Seeking l.starts l.cx (floats_of l.cx l.floats) (numbers_of l.cx l.numbers) l.r l.v l.k
 
 abbrev pub decreases-loop-s : goal.decreases-loop-s
-decreases-loop-s l = get_or (numbers_of l.s l.m).len l.r 0 + get_or (numbers_of l.s l.m).folded l.r 0 - l.k
+decreases-loop-s l = get_or (numbers_of l.cx l.numbers).len l.r 0 + get_or (numbers_of l.cx l.numbers).folded l.r 0 - l.k

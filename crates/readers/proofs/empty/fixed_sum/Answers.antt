@@ -2,7 +2,7 @@
 use Rattle.std.proofs.Common.{◌≡◌, ◌+◌, ◌-◌, ◌<◌, ◌≤◌, ℕ, List, [], ◌∷◌, take, drop, min, length, get_or, get_or-take, get_or-drop, length-append, length-take, length-drop, subst, ap, ◌∙◌, arith}
 use Rattle.std.proofs.lemmas.Slice.Zip.{zip_turn, zip_end}
 use Rattle.std.specs.Float.{Float, nan}
-use Rattle.space.specs.declared.Shape.{Shape}
+use Rattle.space.specs.declared.Context.{Context}
 use Rattle.space.specs.Store.{Floats}
 use Rattle.definition.specs.Singles.{fixed_value}
 use Rattle.tolerances.specs.declared.RowSum.{RowSum}
@@ -28,7 +28,7 @@ module _ {A : Type 0} (l : List A) (a e k : ℕ) (p : k < length (part l a e)) w
   there : (d : A) → get_or (part l a e) k d ≡ get_or l (a + k) d
   there d = let w = within in get_or-take (e - a) (drop a l) k d (omega (arith, w)) ∙ get_or-drop a l k d
 
-module _ (is : List ℕ) (cs : List Float) (s : Shape) (f : Floats) (a e : ℕ) (b : Float) where
+module _ (is : List ℕ) (cs : List Float) (s : Context) (f : Floats) (a e : ℕ) (b : Float) where
   starts : {sum : RowSum} → a ≤ e → sum_of sum ≡ row_start b → Summing is cs s f a e b (a + 0) sum
   starts {sum} l d = let n : a ≡ a + 0 = omega arith in subst (λ i. Summing is cs s f a e b i sum) n (sum_start l d)
 

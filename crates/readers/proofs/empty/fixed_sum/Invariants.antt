@@ -6,4 +6,4 @@ use Rattle.readers.specs.Empty.{Summing}
 use Rattle.readers.proofs.empty.fixed_sum.Given as goal
 
 abbrev pub invariant-loop-v : goal.invariant-loop-v
-invariant-loop-v l = Summing l.rows.index.now l.rows.coeff.now l.s (floats_of l.s l.w) l.a l.e (get_or l.rows.rhs.now l.r nan) (l.a + length l.yielded) l.sum
+invariant-loop-v l = Summing l.rows.index.now l.rows.coeff.now l.cx (floats_of l.cx l.floats) l.a l.e (get_or l.rows.rhs.now l.r nan) (l.a + length l.yielded) l.sum

@@ -4,4 +4,4 @@ use Rattle.readers.specs.Activity.{Walking}
 use Rattle.readers.proofs.rows.activity.Given as goal
 
 abbrev pub invariant-loop-i : goal.invariant-loop-i
-invariant-loop-i g l = Walking l.starts l.s (floats_of l.s l.w) (numbers_of l.s l.m) l.r g.B.Bounds.working l.i l.act
+invariant-loop-i g l = Walking l.starts l.cx (floats_of l.cx l.floats) (numbers_of l.cx l.numbers) l.r g.B.Bounds.working l.i l.act

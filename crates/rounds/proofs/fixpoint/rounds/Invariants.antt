@@ -7,5 +7,5 @@ use Rattle.rounds.specs.Rounding.{Rounding}
 use Rattle.rounds.proofs.fixpoint.rounds.Given as goal
 
 abbrev pub invariant-loop-n : goal.invariant-loop-n
-invariant-loop-n l = (length l.w ≡ length l.initial.w) × (length l.m ≡ length l.initial.m)
-    × Rounding (Running l.obj l.lists l.mode) l.s (floats_of l.s l.initial.w) (numbers_of l.s l.initial.m) (floats_of l.s l.w) (numbers_of l.s l.m) l.cap l.n
+invariant-loop-n l = (length l.floats ≡ length l.initial.floats) × (length l.numbers ≡ length l.initial.numbers)
+    × Rounding (Running l.obj l.lists l.mode) l.cx (floats_of l.cx l.initial.floats) (numbers_of l.cx l.initial.numbers) (floats_of l.cx l.floats) (numbers_of l.cx l.numbers) l.cap l.n

@@ -5,4 +5,4 @@ use Rattle.tighten.specs.All.{AtRow}
 use Rattle.tighten.proofs.rows.tighten_binary_coeffs.Given as goal
 
 abbrev pub invariant-loop-r : goal.invariant-loop-r
-invariant-loop-r l = AtRow (Tightening l.lists) l.s l.r l.changed (floats_of l.s l.initial.w) (numbers_of l.s l.initial.m) (floats_of l.s l.w) (numbers_of l.s l.m)
+invariant-loop-r l = AtRow (Tightening l.lists) l.cx l.r l.changed (floats_of l.cx l.initial.floats) (numbers_of l.cx l.initial.numbers) (floats_of l.cx l.floats) (numbers_of l.cx l.numbers)

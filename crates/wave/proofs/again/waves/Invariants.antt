@@ -7,5 +7,5 @@ use Rattle.wave.specs.Again.{Waving}
 use Rattle.wave.proofs.again.waves.Given as goal
 
 abbrev pub invariant-loop-p : goal.invariant-loop-p
-invariant-loop-p l = (length l.w ≡ length l.initial.w) × (length l.m ≡ length l.initial.m)
-    × Waving (Known l.lists) l.s (floats_of l.s l.initial.w) (numbers_of l.s l.initial.m) (floats_of l.s l.w) (numbers_of l.s l.m) l.cap l.p
+invariant-loop-p l = (length l.floats ≡ length l.initial.floats) × (length l.numbers ≡ length l.initial.numbers)
+    × Waving (Known l.lists) l.cx (floats_of l.cx l.initial.floats) (numbers_of l.cx l.initial.numbers) (floats_of l.cx l.floats) (numbers_of l.cx l.numbers) l.cap l.p

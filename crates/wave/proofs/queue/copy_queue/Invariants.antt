@@ -7,4 +7,4 @@ use Rattle.wave.specs.Begin.{Copied}
 use Rattle.wave.proofs.queue.copy_queue.Given as goal
 
 abbrev pub invariant-loop-i : goal.invariant-loop-i
-invariant-loop-i l = (length l.m ≡ length l.initial.m) × (l.i ≤ l.n) × Copied (numbers_of l.s l.initial.m) (numbers_of l.s l.m) l.i
+invariant-loop-i l = (length l.numbers ≡ length l.initial.numbers) × (l.i ≤ l.n) × Copied (numbers_of l.cx l.initial.numbers) (numbers_of l.cx l.numbers) l.i
