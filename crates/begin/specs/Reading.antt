@@ -24,12 +24,12 @@ use Rattle.space.specs.declared.Context.{Context}
 use Rattle.space.specs.Store.{Floats, Numbers, numbers_of, HoldsN, put_queued, put_dropped, put_tightened, put_fixed, put_rewrote, put_passes, put_alive, put_dirty, put_coeff_dirty, put_queue}
 use Rattle.space.specs.Blocks.{queued_length, dropped_length, tightened_length, fixed_length, rewrote_length, passes_length, dirty_length, coeff_dirty_length, queue_length, alive_length}
 use Rattle.view.specs.Call.{Call}
-use Rattle.view.specs.Shows.{is_one, Tally, Counted, tally_of, parts_of, RowShown, Outcome}
+use Rattle.view.specs.Shows.{is_one, Tally, CountsShown, tally_of, parts_of, RowShown, Outcome}
 use Rattle.view.specs.Inv.{RowInv, Below, marked}
 use Rattle.view.specs.Lists.{one_is, zero_is, marked_le, below_add, count_mod}
 use Rattle.view.specs.Rows.{same?, OneRow}
 use Rattle.view.specs.Known.{Written}
-use Rattle.folds.specs.Written.{Given, Writes}
+use Rattle.folds.specs.Written.{Described, WritesRow}
 use Rattle.folds.specs.WrittenInv.{as_written_inv}
 
 -- ---- the stores
@@ -74,7 +74,7 @@ pub record Front (M : Model) (r : ℕ) (f : Floats) (n : Numbers) (rows : List R
   pub coeff_flags : map is_one (take r n.coeff_dirty) ≡ dirty
   pub queued : get_or n.queued 0 0 ≡ length queue
   pub queues : take (get_or n.queued 0 0) n.queue ≡ queue
-  pub counted : Counted (tally_of n) (counts drops 0 0 0 0)
+  pub counted : CountsShown (tally_of n) (counts drops 0 0 0 0)
   pub alive : (i : ℕ) → i < r → is_one (get_or n.alive i 0) ≡ (get_or rows i no_row).alive
   pub shown : (i : ℕ) → i < r → (get_or rows i no_row).alive ≡ true → RowShown M (parts_of f n) i (get_or rows i no_row)
   pub inv : (i : ℕ) → i < r → (get_or rows i no_row).alive ≡ true → RowInv M i (get_or rows i no_row)
@@ -165,7 +165,7 @@ module _ {M : Model} {s : Context} {r : ℕ} {f : Floats} {n : Numbers} {rows : 
             ap (λ (k : ℕ). take k (set n₁.queue (get_or n₁.queued 0 0) r)) one
             ∙ take-suc-set n₁.queue (get_or n₁.queued 0 0) r (omega (arith, p, q₁, front_room, b.queue, ap length d.queue))
             ∙ ap (λ (l : List ℕ). l ++ (r ∷ [])) qs;
-        counted = subst (λ (t : Tally). Counted t (counts drops 0 0 0 0)) (sym d.tally) h.counted;
+        counted = subst (λ (t : Tally). CountsShown t (counts drops 0 0 0 0)) (sym d.tally) h.counted;
         alive = row_more rows (as_written M r) h.rowses (λ i x. is_one (get_or n₁.alive i 0) ≡ x.alive) (λ i q. ap is_one (d.alive_other i (λ z. omega arith)) ∙ h.alive i q) d.alive;
         shown = row_more rows (as_written M r) h.rowses (λ i x. x.alive ≡ true → RowShown M (parts_of f₁ n₁) i x)
             (λ i q a. d.other i (get_or rows i no_row) (omega (arith, q, rr)) (λ z. omega arith) (h.shown i q a)) d.now;
@@ -174,7 +174,7 @@ module _ {M : Model} {s : Context} {r : ℕ} {f : Floats} {n : Numbers} {rows : 
 
 -- ---- the rows below r, read: one failed, or all are shown
 pub data RowsShown (M : Model) (r : ℕ) (f : Floats) (n : Numbers) : Outcome → Rows → Type 0 where
-  failed : {e : Infeasible} {k : ℕ} → Counted (tally_of n) (counts k 0 0 0 0) → RowsShown M r f n (Err e) (false_row k)
+  failed : {e : Infeasible} {k : ℕ} → CountsShown (tally_of n) (counts k 0 0 0 0) → RowsShown M r f n (Err e) (false_row k)
   shown : {rows : List Row} {queue : List ℕ} {dirty : List Bool} {drops : ℕ} → Front M r f n rows queue dirty drops → RowsShown M r f n (Ok tt) (rows_are rows queue dirty drops)
 
 -- no row is read yet
@@ -364,12 +364,12 @@ pub cleared_now : {s : Context} (l : List ℕ) {n : Numbers} → HoldsN s l → 
 cleared_now l h e = record { before = _; long = rows_long l h; is = e }
 
 -- there is room for row r once it is written
-pub queue_room : {P : Model → Type 0} {s : Context} {r : ℕ} {f f₁ : Floats} {n n₁ : Numbers} {X : Model → Row} → Given P s → Writes P s r f n f₁ n₁ X
+pub queue_room : {P : Model → Type 0} {s : Context} {r : ℕ} {f f₁ : Floats} {n n₁ : Numbers} {X : Model → Row} → Described P s → WritesRow P s r f n f₁ n₁ X
     → r < s.rows → get_or n.queued 0 0 ≤ r → get_or n₁.queued 0 0 < s.rows
 queue_room G h p q = omega (arith, p, q, ap (λ (l : List ℕ). get_or l 0 0) (h.does G.model G.known G.call).queued)
 
 -- the queue's room in a turn
-pub turn_room : {P : Model → Type 0} {s : Context} {r : ℕ} {f₀ f : Floats} {n : Numbers} → Given P s → ReadInv P s r f₀ f n → get_or n.queued 0 0 ≤ r
+pub turn_room : {P : Model → Type 0} {s : Context} {r : ℕ} {f₀ f : Floats} {n : Numbers} → Described P s → ReadInv P s r f₀ f n → get_or n.queued 0 0 ≤ r
 turn_room G i = read_room i G.model G.known G.call
 
 -- ---- the stores, one after the other

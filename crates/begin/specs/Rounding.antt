@@ -21,7 +21,7 @@ use Rattle.view.specs.Lists.{yes, no}
 use Rattle.readers.specs.Reading.{ReadsM, Domains}
 
 -- what the slices of the call say of the model's bounds
-pub record Limits (x : Input) (M : Model) : Type 0 where
+pub record InputBounds (x : Input) (M : Model) : Type 0 where
   pub lower : M.lower ≡ x.lower.now
   pub upper : M.upper ≡ x.upper.now
   pub domain : M.domain ≡ x.domain.now
@@ -110,12 +110,12 @@ round_one M n v b p = let e : n - v ≡ suc (n - suc v) = omega arith in rw e
 pub record RoundInv (x : Input) (s : Context) (v : ℕ) (f : Floats) : Type 0 where
   pub lows : take v f.elo ≡ take v f.wlo
   pub highs : take v f.ehi ≡ take v f.whi
-  pub rest : (M : Model) → Limits x M → Call M s
+  pub rest : (M : Model) → InputBounds x M → Call M s
       → round_from M (s.vars - v) v (bounds (joined v f.wlo x.lower.now) (joined v f.whi x.upper.now)) ≡ round_from M s.vars 0 (bounds x.lower.now x.upper.now)
 
 -- all variables: false where some integer bounds cross, else the four blocks are the definition's bounds
-pub record Rounded (x : Input) (s : Context) (f : Floats) (z : Bool) : Type 0 where
-  pub is : (M : Model) → Limits x M → Call M s → round_from M (length M.lower) 0 (bounds M.lower M.upper) ≡ choose z (bounds f.wlo f.whi) cross
+pub record BoundsRounded (x : Input) (s : Context) (f : Floats) (z : Bool) : Type 0 where
+  pub is : (M : Model) → InputBounds x M → Call M s → round_from M (length M.lower) 0 (bounds M.lower M.upper) ≡ choose z (bounds f.wlo f.whi) cross
   pub elo : z ≡ true → f.elo ≡ f.wlo
   pub ehi : z ≡ true → f.ehi ≡ f.whi
 
@@ -125,7 +125,7 @@ pub record FourLong (s : Context) (f : Floats) : Type 0 where
   pub elo : length f.elo ≡ s.vars
   pub ehi : length f.ehi ≡ s.vars
 
-whole : {x : Input} {s : Context} (M : Model) → Limits x M → Call M s
+whole : {x : Input} {s : Context} (M : Model) → InputBounds x M → Call M s
     → round_from M (length M.lower) 0 (bounds M.lower M.upper) ≡ round_from M s.vars 0 (bounds x.lower.now x.upper.now)
 whole M k c = rw (← c.vars, k.lower, k.upper)
 
@@ -139,7 +139,7 @@ module _ {x : Input} {s : Context} {v : ℕ} {f : Floats} (i : RoundInv x s v f)
   abbrev hs : List Float
   hs = x.upper.now
 
-  turn_is : {f' : Floats} {z : Bool} → v < s.vars → (g : VarRounded x.domain.now s x.int_tol v (at ls v) (at hs v) f f' z) (M : Model) → Limits x M → Call M s
+  turn_is : {f' : Floats} {z : Bool} → v < s.vars → (g : VarRounded x.domain.now s x.int_tol v (at ls v) (at hs v) f f' z) (M : Model) → InputBounds x M → Call M s
       → round_from M s.vars 0 (bounds ls hs) ≡ round_from M (s.vars - suc v) (suc v) (choose z (bounds (set (joined v f.wlo ls) v g.low) (set (joined v f.whi hs) v g.high)) cross)
   turn_is p g M k c =
       sym (i.rest M k c) ∙ round_one M s.vars v _ p
@@ -148,7 +148,7 @@ module _ {x : Input} {s : Context} {v : ℕ} {f : Floats} (i : RoundInv x s v f)
       (joined_at v f.wlo ls (omega (arith, p, b.wlo)) (omega (arith, p, el)))
       (joined_at v f.whi hs (omega (arith, p, b.whi)) (omega (arith, p, eh))))
 
-  pub round_stop : {f' f'' : Floats} {z : Bool} → v < s.vars → VarRounded x.domain.now s x.int_tol v (at ls v) (at hs v) f f' z → z ≡ false → Rounded x s f'' false
+  pub round_stop : {f' f'' : Floats} {z : Bool} → v < s.vars → VarRounded x.domain.now s x.int_tol v (at ls v) (at hs v) f f' z → z ≡ false → BoundsRounded x s f'' false
   unfolding choose
   round_stop p g e =
       record {
@@ -174,7 +174,7 @@ module _ {x : Input} {s : Context} {v : ℕ} {f : Floats} (i : RoundInv x s v f)
             sym (turn_is p g M k c ∙ ap (round_from M (s.vars - suc v) (suc v)) (yes _ _ e ∙ rw (joined_set v f.wlo ls g.low vw ql, joined_set v f.whi hs g.high vh qh)));
       })
 
-  pub round_end : v ≡ s.vars → Rounded x s f true
+  pub round_end : v ≡ s.vars → BoundsRounded x s f true
   unfolding choose round_from
   round_end q =
       let z : s.vars - s.vars ≡ 0 = omega arith in

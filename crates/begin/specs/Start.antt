@@ -12,13 +12,13 @@ use Rattle.definition.specs.Presolve.{finish, start, after_rounding, presolve}
 use Rattle.space.specs.declared.Context.{Context}
 use Rattle.space.specs.Store.{Floats, Numbers}
 use Rattle.view.specs.Call.{Call}
-use Rattle.view.specs.Shows.{is_one, Shows, Counted, tally_of, Outcome}
+use Rattle.view.specs.Shows.{is_one, Shows, CountsShown, tally_of, Outcome}
 use Rattle.view.specs.Inv.{Inv}
 use Rattle.view.specs.Known.{Written}
 use Rattle.view.specs.Lists.{yes, no}
 use Rattle.view.specs.Adjacency.{Adjacency}
-use Rattle.folds.specs.Written.{Given}
-use Rattle.begin.specs.Rounding.{Limits, Rounded, FourLong}
+use Rattle.folds.specs.Written.{Described}
+use Rattle.begin.specs.Rounding.{InputBounds, BoundsRounded, FourLong}
 use Rattle.begin.specs.Placing.{Adjoined}
 use Rattle.begin.specs.Reading.{RowsLong, Cleared, Front, RowsShown, failed, shown, SameBounds, all_rows, RowsRead}
 
@@ -62,20 +62,20 @@ module _ {M : Model} {s : Context} {f : Floats} {n : Numbers} {rows : List Row} 
 
 -- what presolve answers: the counts are shown, or the state that it goes on with
 pub data Begun (M : Model) (f : Floats) (n : Numbers) : Outcome → Answer → Type 0 where
-  ended : {e : Infeasible} {k : Counts} → Counted (tally_of n) k → Begun M f n (Err e) (infeasible k)
+  ended : {e : Infeasible} {k : Counts} → CountsShown (tally_of n) k → Begun M f n (Err e) (infeasible k)
   begins : {w : Work} → Shows M f n n.wave w → Inv M 0 w → Begun M f n (Ok tt) (finish M (rounds M M.params.max_rounds w))
 
 -- what the slices of the call say of the model
 pub record Handed (x : Input) (M : Model) : Type 0 where
-  pub limits : Limits x M
+  pub limits : InputBounds x M
   pub written : Written x.rows M
 
-pub record Begins (P : Model → Type 0) (s : Context) (f : Floats) (n : Numbers) (adjacency : List ℕ) (z : Outcome) : Type 0 where
+pub record Begins (P : Model → Type 0) (s : Context) (f : Floats) (n : Numbers) (a : List ℕ) (z : Outcome) : Type 0 where
   pub does : (M : Model) → P M → Call M s → Begun M f n z (presolve M)
-  pub adjacency : z ≡ Ok tt → (M : Model) → P M → Call M s → Adjacency M adjacency
+  pub adjacency : z ≡ Ok tt → (M : Model) → P M → Call M s → Adjacency M a
 
 -- ---- what the slices hold
-module _ {x : Input} {s : Context} (G : Given (Handed x) s) where
+module _ {x : Input} {s : Context} (G : Described (Handed x) s) where
   pub lower_long : length x.lower.now ≡ s.vars
   lower_long = omega (arith, ap length G.known.limits.lower, G.call.vars)
 
@@ -85,7 +85,7 @@ module _ {x : Input} {s : Context} (G : Given (Handed x) s) where
   pub domain_long : length x.domain.now ≡ s.vars
   domain_long = omega (arith, ap length G.known.limits.domain, G.call.domains, G.call.vars)
 
-  pub given_written : Given (Written x.rows) s
+  pub given_written : Described (Written x.rows) s
   given_written = record { model = G.model; known = G.known.written; call = G.call }
 
 -- ---- the definition, by its ways
@@ -102,7 +102,7 @@ pub goes_on : (M : Model) {ls hs : List Float} → crossed M.lower M.upper ≡ f
 unfolding presolve after_rounding
 goes_on M e r = no _ _ e ∙ rw r
 
-zeros : {s : Context} {n : Numbers} → Cleared s n → Counted (tally_of n) (counts 0 0 0 0 0)
+zeros : {s : Context} {n : Numbers} → Cleared s n → CountsShown (tally_of n) (counts 0 0 0 0 0)
 zeros z =
     let n = z.before in
     rw (z.is)
@@ -114,7 +114,7 @@ zeros z =
       passes = get_or-set_same n.passes 0 0 0 (omega (arith, z.long.passes));
     })
 
-crossed_is : {x : Input} {y b : Bool} (M : Model) → y ≡ crossed x.lower.now x.upper.now → Limits x M → y ≡ b → crossed M.lower M.upper ≡ b
+crossed_is : {x : Input} {y b : Bool} (M : Model) → y ≡ crossed x.lower.now x.upper.now → InputBounds x M → y ≡ b → crossed M.lower M.upper ≡ b
 crossed_is M ec k e = rw (k.lower, k.upper) (sym ec ∙ e)
 
 module _ {x : Input} {s : Context} {n : Numbers} {adjacency : List ℕ} {y : Bool} (ec : y ≡ crossed x.lower.now x.upper.now) (b : Cleared s n) where
@@ -125,7 +125,7 @@ module _ {x : Input} {s : Context} {n : Numbers} {adjacency : List ℕ} {y : Boo
         adjacency = λ t. absurd (let z : ◌≡◌ {A = ℕ} 0 1 = cc in omega arith);
       }
 
-  module _ {f : Floats} {z : Bool} (e : y ≡ false) (r : Rounded x s f z) where
+  module _ {f : Floats} {z : Bool} (e : y ≡ false) (r : BoundsRounded x s f z) where
     pub begin_cross : {f' : Floats} {u : Infeasible} → z ≡ false → Begins (Handed x) s f' n adjacency (Err u)
     begin_cross g =
         record {
@@ -151,7 +151,7 @@ module _ {x : Input} {s : Context} {n : Numbers} {adjacency : List ℕ} {y : Boo
 pub record Stopped (M : Model) (n : Numbers) (x : Answer) : Type 0 where
   pub counts : Counts
   pub is : x ≡ infeasible counts
-  pub counted : Counted (tally_of n) counts
+  pub counted : CountsShown (tally_of n) counts
 
 pub stopped_is : {M : Model} {f : Floats} {n : Numbers} {e : Infeasible} {x : Answer} → Begun M f n (Err e) x → Stopped M n x
 stopped_is (ended {k} h) = record { counts = k; is = refl; counted = h }

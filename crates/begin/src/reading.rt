@@ -3,7 +3,7 @@
 ghost use Rattle.std.specs.Prelude.{◌≡◌, ◌≤◌, ◌<◌, get_or};
 ghost use Rattle.space.specs.Store.{floats_of, numbers_of, HoldsF, HoldsN};
 ghost use Rattle.view.specs.Known.{Written};
-ghost use Rattle.folds.specs.Written.{Given};
+ghost use Rattle.folds.specs.Written.{Described};
 ghost use Rattle.begin.specs.Reading.{cleared, skipped, joined, Cleared, ReadsOne, RowsRead};
 
 use definition::{Infeasible, Rows};
@@ -58,7 +58,7 @@ fn read_row(
     r: usize,
 ) -> Result<(), Infeasible>
     requires r_lt_rows { (r < cx.rows) × (get_or (numbers_of cx numbers.old).queued 0 0 ≤ r) × HoldsF cx floats.old × HoldsN cx numbers.old }
-    requires given { Given (Written rows) cx }
+    requires given { Described (Written rows) cx }
     ensures { ReadsOne (Written rows.entry) cx r
         (floats_of cx floats.old) (numbers_of cx numbers.old) (floats_of cx floats.new) (numbers_of cx numbers.new) result }
 {
@@ -84,11 +84,11 @@ pub(crate) fn read_rows(
     cx: Context,
 ) -> Result<(), Infeasible>
     requires holds_f { HoldsF cx floats.old × HoldsN cx numbers.old × Cleared cx (numbers_of cx numbers.old) }
-    requires given { Given (Written rows) cx }
+    requires given { Described (Written rows) cx }
     ensures { RowsRead (Written rows.entry) cx
         (floats_of cx floats.old) (floats_of cx floats.new) (numbers_of cx numbers.new) result }
 {
-    for r in 0..s.rows {
+    for r in 0..cx.rows {
         read_row(rows, floats, numbers, cx, r)?;
     }
     Ok(())

@@ -3,7 +3,7 @@
 ghost use Rattle.std.specs.Prelude.{◌≡◌, ◌<◌, length, is_ok};
 ghost use Rattle.tolerances.specs.Tol.{at};
 ghost use Rattle.space.specs.Store.{floats_of, HoldsF};
-ghost use Rattle.begin.specs.Rounding.{put_bounds, VarRounded, Rounded};
+ghost use Rattle.begin.specs.Rounding.{put_bounds, VarRounded, BoundsRounded};
 
 use definition::{Infeasible, Input};
 use space::{Context, Ehi, Elo, Whi, Wlo};
@@ -43,9 +43,9 @@ fn round_var(input: Input, floats: &mut [f64], cx: Context, v: usize) -> Result<
 // = round_from
 pub(crate) fn round_vars(input: Input, floats: &mut [f64], cx: Context) -> Result<(), Infeasible>
     requires { (length input.lower.now ≡ cx.vars) × (length input.upper.now ≡ cx.vars) × (length input.domain.now ≡ cx.vars) × HoldsF cx floats.old }
-    ensures { Rounded input.entry cx (floats_of cx floats.new) (is_ok result) }
+    ensures { BoundsRounded input.entry cx (floats_of cx floats.new) (is_ok result) }
 {
-    for v in 0..s.vars {
+    for v in 0..cx.vars {
         round_var(input, floats, cx, v)?;
     }
     Ok(())

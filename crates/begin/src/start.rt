@@ -1,10 +1,10 @@
 // src/presolve/mod.rs of microlp 0.7.0, changed: the start of presolve as one step.
 ghost use Rattle.std.specs.Prelude.{◌+◌, ◌≤◌, length};
 ghost use Rattle.space.specs.Store.{floats_of, numbers_of, HoldsF, HoldsN};
-ghost use Rattle.folds.specs.Written.{Given};
+ghost use Rattle.folds.specs.Written.{Described};
 ghost use Rattle.begin.specs.Start.{Handed, Begins};
 
-use crate::adjacency::adjacency;
+use crate::adjacency::fill_adjacency;
 use crate::crossing::crossed;
 use crate::reading::{clear, read_rows};
 use crate::rounding::round_vars;
@@ -20,7 +20,7 @@ pub fn begin(
     cx: Context,
 ) -> Result<(), Infeasible>
     requires holds_f { HoldsF cx floats.old × HoldsN cx numbers.old × (cx.vars + 1 + cx.terms ≤ length adjacency.old) }
-    requires given { Given (Handed input) cx }
+    requires given { Described (Handed input) cx }
     ensures { Begins (Handed input.entry) cx (floats_of cx floats.new) (numbers_of cx numbers.new) adjacency.new result }
 {
     clear(numbers, cx);
@@ -28,6 +28,6 @@ pub fn begin(
         return Err(Infeasible);
     }
     round_vars(input, floats, cx)?;
-    adjacency(input.rows, adjacency, cx);
+    fill_adjacency(input.rows, adjacency, cx);
     read_rows(input.rows, floats, numbers, cx)
 }

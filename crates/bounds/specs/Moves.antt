@@ -1,5 +1,5 @@
 -- Implied bounds on the slices: one law for the four ways to tighten, by what the move is; and that each keeps the invariant.
-use Rattle.std.specs.Prelude.{ℕ, ◌<◌, ◌≡◌, refl, Bool, true, false, not, ◌&&◌, List, eqb, length, get_or, set, Float, Ok, Err}
+use Rattle.std.specs.Prelude.{ℕ, ◌<◌, ◌≡◌, refl, Bool, true, false, List, length, get_or, set, Float, Ok, Err}
 use Rattle.std.proofs.Common.{arith, ◌∙◌}
 use Rattle.std.proofs.Math.Path.{ap, sym, subst}
 use Rattle.std.proofs.Math.ListN.{length-set}
@@ -7,7 +7,7 @@ use Rattle.std.specs.Float.{nan}
 use Rattle.floats.specs.Num.{choose, ◌⊖◌, ◌⊕◌, minf, maxf, is_finite, floor, ceil}
 use Rattle.tolerances.specs.Tol.{at, bound_tolerance}
 use Rattle.definition.specs.declared.Infeasible.{Infeasible}
-use Rattle.definition.specs.Model.{Model, is_int, is_mip, is_int_domain}
+use Rattle.definition.specs.Model.{Model}
 use Rattle.definition.specs.Work.{Work, with_bounds, Step, stop, next, bound_tol}
 use Rattle.definition.specs.Bounds.{fix, mark_tightened, emit_bounds, upper_int, upper_real, lower_int, lower_real, tighten_upper, tighten_lower}
 use Rattle.space.specs.declared.Context.{Context}
@@ -15,6 +15,7 @@ use Rattle.space.specs.Store.{Floats, Numbers, put_wlo, put_whi, put_elo, put_eh
 use Rattle.formulas.specs.Moves.{Move, by_move, upper_int_move, upper_real_move, lower_int_move, lower_real_move, upper_int_of, upper_real_of}
 use Rattle.formulas.specs.Moves.{lower_int_of, lower_real_of, emits_tighter, emitted_lower, emitted_upper, emit_bounds_of}
 use Rattle.view.specs.Call.{Call}
+use Rattle.readers.specs.Vars.{int_code, int_is}
 use Rattle.view.specs.declared.Lists.{Lists}
 use Rattle.view.specs.Shows.{Shows, StepShown, Outcome}
 use Rattle.view.specs.Inv.{Inv}
@@ -170,22 +171,6 @@ tries_same : {P : Model → Type 0} {s : Context} {f f' : Floats} {n n' : Number
     → ((M : Model) (w : Work) → P M → Call M s → F M w ≡ G M w) → Tries P s f n f' n' z G → Tries P s f n f' n' z F
 tries_same {f' = f'} {n' = n'} {z = z} e t =
     record { does = λ M o k w p c h i. subst (λ (y : Step). StepShown M f' n' o z y) (sym (e M w p c)) (t.does M o k w p c h i) }
-
--- an integer variable: in Mip, not Real
-unfoldable pub int_code : Bool → ℕ → Bool
-int_code mip d = mip && not (eqb d 1)
-
-pub int_is : {M : Model} {s : Context} {ds : List ℕ} (v : ℕ) → Call M s → M.domain ≡ ds → is_int M v ≡ int_code s.mip (get_or ds v 0)
-unfolding is_int is_int_domain is_mip int_code
-int_is v c e = cc (c.mip, e)
-
-pub int_yes : {mip : Bool} (d : ℕ) → mip ≡ true → not (eqb d 1) ≡ int_code mip d
-unfolding int_code
-int_yes d e = rw e
-
-pub int_no : {mip : Bool} (d : ℕ) → mip ≡ false → false ≡ int_code mip d
-unfolding int_code
-int_no d e = rw e
 
 -- there is a domain for every variable
 pub bounding_domain : {s : Context} {lists : Lists} {f : Floats} {n : Numbers} {v : ℕ} → Ready (Bounding lists) s f n → v < s.vars → v < length lists.domain.now

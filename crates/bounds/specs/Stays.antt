@@ -22,7 +22,7 @@ use Rattle.view.specs.Shows.{Shows}
 use Rattle.view.specs.Lists.{yes, no, either}
 use Rattle.view.specs.Known.{Bounding}
 use Rattle.view.specs.Bounds.{wlo_is, whi_is, elo_is, ehi_is}
-use Rattle.bounds.specs.Moves.{int_code, int_is}
+use Rattle.readers.specs.Vars.{int_code, int_is}
 
 -- the test: q is at or outside the bound that it would move
 unfoldable pub still_at : List ℕ → Context → Floats → ℕ → Float → Bool → Bool

@@ -7,7 +7,7 @@ ghost use Rattle.view.specs.Acts.{Ready, Acts, Tries, ReadyN, ActsN};
 ghost use Rattle.view.specs.Adjacency.{Adj};
 ghost use Rattle.view.specs.Known.{Bounding};
 ghost use Rattle.bounds.specs.Flags.{FlagsKept};
-ghost use Rattle.bounds.specs.Moves.{EmitsFour, int_code, tightens};
+ghost use Rattle.bounds.specs.Moves.{EmitsFour, tightens};
 ghost use Rattle.bounds.specs.Stays.{still_at, Stays};
 
 use crate::marks::mark_var;
@@ -186,16 +186,6 @@ fn lower_real(
     Ok(())
 }
 
-// = is_int. Not the one of readers, which says what a model has, where stays promises a value whatever the model: one
-// function with both promises would be longer than this line.
-#[tactic(auto, unfolding(crate::specs::Moves::int_code, formulas::specs::Fixing::int_domain))]
-fn is_int(domain: &[u8], cx: Context, v: usize) -> bool
-    requires { v < length domain.now }
-    ensures { result ≡ int_code cx.mip (get_or domain.now v 0) }
-{
-    cx.mip && formulas::is_int_domain(domain[v])
-}
-
 // = tighten_upper from above, tighten_lower from below. lists, floats, numbers and cx are every step's (space says why they stay apart). v, q,
 // relax and above are of one implied bound, and no struct: its caller asks `stays` of q before it knows what q is relaxed by, and
 // would make the struct for this one call.
@@ -217,7 +207,7 @@ pub fn tighten(
     if !floats::is_finite(q) {
         return Ok(());
     }
-    let int = is_int(lists.domain, cx, v);
+    let int = readers::is_int(lists.domain, cx, v);
     if above {
         if int {
             return upper_int(
@@ -251,7 +241,7 @@ pub fn stays(domain: &[u8], floats: &[f64], cx: Context, v: usize, q: f64, above
     ensures value { result ≡ still_at domain.now cx (floats_of cx floats.now) v q above }
     ensures stays { result ≡ true → Stays domain.now cx (floats_of cx floats.now) v q above }
 {
-    let int = is_int(domain, cx, v);
+    let int = readers::is_int(domain, cx, v);
     if above {
         let ehi = get::<Ehi>(floats, cx, v);
         let whi = get::<Whi>(floats, cx, v);

@@ -1,4 +1,4 @@
-// src/presolve/work.rs of microlp 0.7.0, changed: requeueing and bounds.
+// src/presolve/work.rs of microlp 0.7.0, changed: the smallest steps on the state: requeueing, dropping a row, and bounds.
 // What an integer variable's rows imply is rounded and emitted, so that the reduced model has it; what
 // they imply of any other stays a working bound, since the room that it would take from several such
 // variables can add up to more than a row's tolerance. Bounds that cross by more than their tolerance
@@ -8,7 +8,9 @@
 #![tactic(auto)]
 
 mod bounds;
+mod dropping;
 mod marks;
 
 pub use bounds::{emit_bounds, fix, stays, tighten};
+pub use dropping::drop_row;
 pub use marks::requeue;

@@ -132,12 +132,12 @@ each_next : (g : ℕ → List Bool → List Bool) (j : ℕ) (l : List Bool) → 
 unfolding each_row
 each_next g j l = rw add-one refl
 
-pub record Rows (ss : List ℕ) (s : Context) (r : ℕ) (f : Floats) (n₀ n : Numbers) : Type 0 where
+pub record BarredRows (ss : List ℕ) (s : Context) (r : ℕ) (f : Floats) (n₀ n : Numbers) : Type 0 where
   pub upto : r ≤ s.rows
   pub ready : Ready (Spans ss) s f n
   pub flags : Flags n₀ n (each_row (fall_bars ss f n₀) r) (each_row (rise_bars ss f n₀) r)
 
-pub rows_start : {ss : List ℕ} {s : Context} {f : Floats} {n : Numbers} → Ready (Spans ss) s f n → Rows ss s 0 f n n
+pub rows_start : {ss : List ℕ} {s : Context} {f : Floats} {n : Numbers} → Ready (Spans ss) s f n → BarredRows ss s 0 f n n
 rows_start {ss} {f = f} {n} R =
     record { upto = omega arith; ready = R; flags = flags_none (each_nil (fall_bars ss f n)) (each_nil (rise_bars ss f n)) }
 
@@ -150,8 +150,8 @@ rise_same : (ss : List ℕ) (f : Floats) (n₀ : Numbers) {n : Numbers} (d i : L
 unfolding rise_bars
 rise_same ss f n₀ d i r l e = rw e refl
 
-module _ {ss : List ℕ} {s : Context} {r : ℕ} {f : Floats} {n₀ n : Numbers} (R : Rows ss s r f n₀ n) where
-  pub rows_turn : {n₁ : Numbers} → r < s.rows → Flags n n₁ (fall_bars ss f n r) (rise_bars ss f n r) → Ready (Spans ss) s f n₁ → Rows ss s (r + 1) f n₀ n₁
+module _ {ss : List ℕ} {s : Context} {r : ℕ} {f : Floats} {n₀ n : Numbers} (R : BarredRows ss s r f n₀ n) where
+  pub rows_turn : {n₁ : Numbers} → r < s.rows → Flags n n₁ (fall_bars ss f n r) (rise_bars ss f n r) → Ready (Spans ss) s f n₁ → BarredRows ss s (r + 1) f n₀ n₁
   rows_turn p t y =
       record {
         upto = omega (arith, p);

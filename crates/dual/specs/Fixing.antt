@@ -217,7 +217,7 @@ pub dual_keeps : {P : Model → Type 0} {s : Context} → KeepsBool P s (λ M. d
 dual_keeps = record { keeps = λ M k w p c i. inv_dual w i }
 
 -- ---- dual_vars: what is left from v on gives the whole
-pub record Left (M : Model) (s : Context) (f : Floats) (n : Numbers) (o : List ℕ) (k : ℕ) (dec inc : List Bool) (v : ℕ) (changed : Bool) (whole : Work × Bool) : Type 0 where
+pub record FlagsLeft (M : Model) (s : Context) (f : Floats) (n : Numbers) (o : List ℕ) (k : ℕ) (dec inc : List Bool) (v : ℕ) (changed : Bool) (whole : Work × Bool) : Type 0 where
   pub work : Work
   pub shows : Shows M f n o work
   pub inv : Inv M k work
@@ -228,7 +228,7 @@ pub record Vars (os : List Float) (lists : Lists) (s : Context) (v : ℕ) (chang
   pub ready : Ready (Fixing os lists) s f n
   pub kept : FlagsKept n₀ n
   pub left : (M : Model) (o : List ℕ) (k : ℕ) (w : Work) → Fixing os lists M → Call M s → Shows M f₀ n₀ o w → Inv M k w
-      → Left M s f n o k (map is_one n₀.bad_dec) (map is_one n₀.bad_inc) v changed (dual_from M s.vars (map is_one n₀.bad_dec) (map is_one n₀.bad_inc) 0 w false)
+      → FlagsLeft M s f n o k (map is_one n₀.bad_dec) (map is_one n₀.bad_inc) v changed (dual_from M s.vars (map is_one n₀.bad_dec) (map is_one n₀.bad_inc) 0 w false)
 
 from_next : (M : Model) (j i : ℕ) (dec inc : List Bool) (v u : ℕ) (w : Work) (changed : Bool) → i ≡ suc j → u ≡ suc v
     → dual_from M j dec inc u (dual_var M dec inc v w changed).0 (dual_var M dec inc v w changed).1 ≡ dual_from M i dec inc v w changed

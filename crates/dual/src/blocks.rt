@@ -16,7 +16,7 @@ pub(crate) fn clear_flags(numbers: &mut [usize], cx: Context)
     requires { HoldsN cx numbers.old }
     ensures { Flags (numbers_of cx numbers.old) (numbers_of cx numbers.new) (λ l. none_bad cx.vars) (λ l. none_bad cx.vars) }
 {
-    for v in 0..s.vars {
+    for v in 0..cx.vars {
         put::<BadDec>(numbers, cx, v, 0);
         put::<BadInc>(numbers, cx, v, 0);
     }
@@ -86,7 +86,7 @@ pub(crate) fn block_rows(starts: &[usize], floats: &[f64], numbers: &mut [usize]
         (each_row (fall_bars starts.now (floats_of cx floats.now) (numbers_of cx numbers.old)) cx.rows)
         (each_row (rise_bars starts.now (floats_of cx floats.now) (numbers_of cx numbers.old)) cx.rows) }
 {
-    for r in 0..s.rows {
+    for r in 0..cx.rows {
         block_row(starts, floats, numbers, cx, r);
     }
 }

@@ -97,7 +97,7 @@ fn dual_vars(
         (λ M u. dual_from M cx.vars (map is_one (numbers_of cx numbers.old).bad_dec) (map is_one (numbers_of cx numbers.old).bad_inc) 0 u false) }
 {
     let mut changed = false;
-    for v in 0..s.vars {
+    for v in 0..cx.vars {
         changed |= dual_var(obj, lists, floats, numbers, cx, v);
     }
     changed

@@ -88,6 +88,6 @@ module _ {cs : List ℕ} {r : ℕ} {z : Fate} (F : FateIs cs r z) where
   mark_now f = f ∙ ap (λ (x : Fate). mark (rewrites x)) F.is ∙ ap mark (rewrites_is (get_or cs r 0))
 
 -- of the rows below n, p is what a test T answers of their fates, and g what V gives of them
-pub record Writes {A : Type 0} (T : Fate → Bool → Type 0) (V : ℕ → Fate → A → Type 0) (cs : List ℕ) (n : ℕ) (p : ℕ → Bool) (g : ℕ → A) : Type 0 where
+pub record WritesFates {A : Type 0} (T : Fate → Bool → Type 0) (V : ℕ → Fate → A → Type 0) (cs : List ℕ) (n : ℕ) (p : ℕ → Bool) (g : ℕ → A) : Type 0 where
   pub test : (r : ℕ) (z : Fate) (b : Bool) → r < n → FateIs cs r z → T z b → p r ≡ b
   pub value : (r : ℕ) (z : Fate) (x : A) → r < n → FateIs cs r z → V r z x → x ≡ g r

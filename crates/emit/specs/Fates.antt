@@ -16,7 +16,7 @@ use Rattle.definition.specs.Work.{no_row, trivial}
 use Rattle.definition.specs.Bindings.{rewritten_bound}
 use Rattle.definition.specs.Emit.{Out, no_out, sort_terms, keep_row, emit_written, emit_rewritten, out_row}
 use Rattle.view.specs.Lists.{yes, no, either}
-use Rattle.emit.specs.Settled.{out_settled, out_of}
+use Rattle.view.specs.Settled.{out_settled, out_of}
 use Rattle.row_terms.specs.RowMark.{mark}
 
 unfoldable pub is_kept : ℕ → Bool
@@ -162,7 +162,7 @@ from_at cs rows ss r = choose (rewritten_at cs r) (length (terms_of cs rows r)) 
 unfoldable pub upto_at : List ℕ → List Row → List ℕ → ℕ → ℕ
 upto_at cs rows ss r = choose (rewritten_at cs r) (length (terms_of cs rows (suc r))) (get_or ss (r + 1) 0)
 
-pub record Lists (M : Model) (cs : List ℕ) (bs : List Float) (rows : List Row) (n : ℕ) (o : Out) : Type 0 where
+pub record FateLists (M : Model) (cs : List ℕ) (bs : List Float) (rows : List Row) (n : ℕ) (o : Out) : Type 0 where
   pub kept : o.kept ≡ collect (kept_at cs) self n
   pub terms : o.terms ≡ terms_of cs rows n
   pub row : map (λ (e : Emit). e.row) o.emitted ≡ collect (out_at cs) self n
@@ -172,7 +172,7 @@ pub record Lists (M : Model) (cs : List ℕ) (bs : List Float) (rows : List Row)
   pub upto : map (λ (e : Emit). e.upto) o.emitted ≡ collect (out_at cs) (upto_at cs rows M.starts) n
 
 -- one more row, by its fate
-module _ {M : Model} {cs : List ℕ} {bs : List Float} {rows : List Row} {r : ℕ} {o : Out} (L : Lists M cs bs rows r o) where
+module _ {M : Model} {cs : List ℕ} {bs : List Float} {rows : List Row} {r : ℕ} {o : Out} (L : FateLists M cs bs rows r o) where
   map_snoc : {B : Type 0} (f : Emit → B) (l : List Emit) (e : Emit) → map f (l ++ (e ∷ [])) ≡ map f l ++ (f e ∷ [])
   map_snoc f [] e = refl
   map_snoc f (x ∷ l) e = ap (λ (t : List _). f x ∷ t) (map_snoc f l e)
@@ -217,7 +217,7 @@ module _ {M : Model} {cs : List ℕ} {bs : List Float} {rows : List Row} {r : �
   unfolding upto_at
   upto_rewritten e = sym (length-append o.terms (sort_terms ((get_or rows r no_row).terms ++ (get_or rows r no_row).folded))) ∙ ap length (terms_more e) ∙ sym (yes _ _ e)
 
-  lists_same : kept_at cs r ≡ false → out_at cs r ≡ false → rewritten_at cs r ≡ false → Lists M cs bs rows (suc r) o
+  lists_same : kept_at cs r ≡ false → out_at cs r ≡ false → rewritten_at cs r ≡ false → FateLists M cs bs rows (suc r) o
   lists_same k u w =
       record {
         kept = none_more (kept_at cs) self k L.kept;
@@ -229,7 +229,7 @@ module _ {M : Model} {cs : List ℕ} {bs : List Float} {rows : List Row} {r : �
         upto = none_more (out_at cs) (upto_at cs rows M.starts) u L.upto;
       }
 
-  lists_kept : kept_at cs r ≡ true → out_at cs r ≡ false → rewritten_at cs r ≡ false → Lists M cs bs rows (suc r) (keep_row r o)
+  lists_kept : kept_at cs r ≡ true → out_at cs r ≡ false → rewritten_at cs r ≡ false → FateLists M cs bs rows (suc r) (keep_row r o)
   lists_kept k u w =
       record {
         kept = more (kept_at cs) self k L.kept refl refl;
@@ -241,7 +241,7 @@ module _ {M : Model} {cs : List ℕ} {bs : List Float} {rows : List Row} {r : �
         upto = none_more (out_at cs) (upto_at cs rows M.starts) u L.upto;
       }
 
-  lists_written : kept_at cs r ≡ false → out_at cs r ≡ true → rewritten_at cs r ≡ false → Lists M cs bs rows (suc r) (emit_written M r o)
+  lists_written : kept_at cs r ≡ false → out_at cs r ≡ true → rewritten_at cs r ≡ false → FateLists M cs bs rows (suc r) (emit_written M r o)
   lists_written k u w =
       record {
         kept = none_more (kept_at cs) self k L.kept;
@@ -254,7 +254,7 @@ module _ {M : Model} {cs : List ℕ} {bs : List Float} {rows : List Row} {r : �
       }
 
   lists_rewritten : kept_at cs r ≡ true → out_at cs r ≡ true → rewritten_at cs r ≡ true
-      → Lists M cs bs rows (suc r) (emit_rewritten M r (at bs r) (sort_terms ((get_or rows r no_row).terms ++ (get_or rows r no_row).folded)) o)
+      → FateLists M cs bs rows (suc r) (emit_rewritten M r (at bs r) (sort_terms ((get_or rows r no_row).terms ++ (get_or rows r no_row).folded)) o)
   lists_rewritten k u w =
       record {
         kept = more (kept_at cs) self k L.kept refl refl;
@@ -266,7 +266,7 @@ module _ {M : Model} {cs : List ℕ} {bs : List Float} {rows : List Row} {r : �
         upto = more (out_at cs) (upto_at cs rows M.starts) u L.upto (map_snoc (λ (e : Emit). e.upto) o.emitted _) (upto_rewritten w);
       }
 
-  lists_by : (c : ℕ) → get_or cs r 0 ≡ c → Lists M cs bs rows (suc r) (out_by M r c (at bs r) (get_or rows r no_row) o)
+  lists_by : (c : ℕ) → get_or cs r 0 ≡ c → FateLists M cs bs rows (suc r) (out_by M r c (at bs r) (get_or rows r no_row) o)
   unfolding out_by is_kept is_out is_rewritten
   lists_by zero e = lists_same (rw e) (rw e) (rw e)
   lists_by (suc zero) e = lists_kept (rw e) (rw e) (rw e)
@@ -275,11 +275,11 @@ module _ {M : Model} {cs : List ℕ} {bs : List Float} {rows : List Row} {r : �
       let z : ltb 2 (get_or cs r 0) ≡ true = lt-ltb 2 (get_or cs r 0) (omega (arith, e)) in
       lists_rewritten (rw (ne_eqb (get_or cs r 0) 1 (λ q. omega (arith, e, q))) z) (lt-ltb 1 (get_or cs r 0) (omega (arith, e))) z
 
-lists_fates : (M : Model) (cs : List ℕ) (bs : List Float) (rows : List Row) (n : ℕ) → Lists M cs bs rows n (out_fates M cs bs rows n)
+lists_fates : (M : Model) (cs : List ℕ) (bs : List Float) (rows : List Row) (n : ℕ) → FateLists M cs bs rows n (out_fates M cs bs rows n)
 unfolding out_fates collect terms_of
 lists_fates M cs bs rows zero = record { kept = refl; terms = refl; row = refl; rewritten = refl; rhs = refl; from = refl; upto = refl }
 lists_fates M cs bs rows (suc r) = lists_by (lists_fates M cs bs rows r) (get_or cs r 0) refl
 
 -- what goes out of settled rows whose fates are cs, list by list
-pub out_lists : (M : Model) (cs : List ℕ) (bs : List Float) (rows : List Row) (n : ℕ) → Fates M cs bs rows n → Lists M cs bs rows n (out_of M rows n)
+pub out_lists : (M : Model) (cs : List ℕ) (bs : List Float) (rows : List Row) (n : ℕ) → Fates M cs bs rows n → FateLists M cs bs rows n (out_of M rows n)
 out_lists M cs bs rows n h = rw (out_fates_lem M cs bs rows n h) (lists_fates M cs bs rows n)

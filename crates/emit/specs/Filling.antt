@@ -79,23 +79,23 @@ module _ {A : Type 0} where
       fill_end {k} l m = let z : r ≡ k = omega (arith, l, m) in subst (λ (j : ℕ). Filled p g j old new n) z F
 
 -- ---- a whole block of n, place by place: the first v places are written
-pub record Copied {A : Type 0} (l old : List A) (n v : ℕ) (new : List A) : Type 0 where
+pub record CopiedUpTo {A : Type 0} (l old : List A) (n v : ℕ) (new : List A) : Type 0 where
   pub long : length l ≡ n
   pub room : n ≤ length old
   pub upto : v ≤ n
   pub list : new ≡ over (take v l) old
 
-pub copy_start : {A : Type 0} {l old : List A} {n : ℕ} → length l ≡ n → n ≤ length old → Copied l old n 0 old
+pub copy_start : {A : Type 0} {l old : List A} {n : ℕ} → length l ≡ n → n ≤ length old → CopiedUpTo l old n 0 old
 copy_start p q = record { long = p; room = q; upto = omega arith; list = refl }
 
-module _ {A : Type 0} {l old : List A} {n v : ℕ} {new : List A} (C : Copied l old n v new) where
+module _ {A : Type 0} {l old : List A} {n v : ℕ} {new : List A} (C : CopiedUpTo l old n v new) where
   taken : length (take v l) ≡ v
   taken = length-take-le v l (omega (arith, C.upto, C.long))
 
   pub copy_kept : length new ≡ length old
   copy_kept = ap length C.list ∙ over_length (take v l) old (omega (arith, taken, C.upto, C.room))
 
-  pub copy_turn : (d : A) {x : A} → v < n → x ≡ get_or l v d → Copied l old n (v + 1) (set new v x)
+  pub copy_turn : (d : A) {x : A} → v < n → x ≡ get_or l v d → CopiedUpTo l old n (v + 1) (set new v x)
   copy_turn d {x} p f =
       record {
         long = C.long;

@@ -1,5 +1,4 @@
--- The end of presolve: the definition's pass as two, the fates of rows, and what the writers leave.
-pub mod Settled
+-- The end of presolve: the fates of rows, and what the writers leave.
 pub mod Sorted
 pub mod Fates
 pub mod FateNumbers

@@ -13,7 +13,7 @@ pub fn write_bounds(floats: &[f64], cx: Context, lower: &mut [f64], upper: &mut 
     ensures lower_after { lower.new ≡ over (floats_of cx floats.now).elo lower.old }
     ensures upper_after { upper.new ≡ over (floats_of cx floats.now).ehi upper.old }
 {
-    for v in 0..s.vars {
+    for v in 0..cx.vars {
         lower[v] = space::get::<Elo>(floats, cx, v);
         upper[v] = space::get::<Ehi>(floats, cx, v);
     }
@@ -24,7 +24,7 @@ pub fn bounds_changed(lower: &[f64], upper: &[f64], floats: &[f64], cx: Context)
     requires { HoldsF cx floats.now × (length lower.now ≡ cx.vars) × (length upper.now ≡ cx.vars) }
     ensures { result ≡ (not (same_bounds (floats_of cx floats.now).elo lower.now) || not (same_bounds (floats_of cx floats.now).ehi upper.now)) }
 {
-    (0..s.vars).any(|v| {
+    (0..cx.vars).any(|v| {
         space::get::<Elo>(floats, cx, v) != lower[v] || space::get::<Ehi>(floats, cx, v) != upper[v]
     })
 }

@@ -3,7 +3,7 @@ ghost use Rattle.std.specs.Prelude.{ℕ, ◌≤◌, ◌<◌, Bool, length};
 ghost use Rattle.space.specs.Store.{numbers_of, HoldsN};
 ghost use Rattle.emit.specs.declared.fates.Fate.{Fate};
 ghost use Rattle.emit.specs.Filling.{Filled};
-ghost use Rattle.emit.specs.FateNumbers.{Writes};
+ghost use Rattle.emit.specs.FateNumbers.{WritesFates};
 
 use crate::fates::{Fate, fate_of};
 use space::Context;
@@ -20,10 +20,10 @@ pub(crate) fn collect<T: Copy, P: Fn(Fate) -> bool, V: Fn(usize, Fate) -> T>(
     requires holds_n { HoldsN cx numbers.now × (cx.rows ≤ length out.old) }
     requires tests { (x : Fate) → P.pre test x }
     requires values { (r : ℕ) (x : Fate) → r < cx.rows → V.pre value r x }
-    ensures { (p : ℕ → Bool) (g : ℕ → T) → Writes (P.post test) (V.post value) (numbers_of cx numbers.now).fate cx.rows p g → Filled p g cx.rows out.old out.new result }
+    ensures { (p : ℕ → Bool) (g : ℕ → T) → WritesFates (P.post test) (V.post value) (numbers_of cx numbers.now).fate cx.rows p g → Filled p g cx.rows out.old out.new result }
 {
     let mut n = 0;
-    for r in 0..s.rows {
+    for r in 0..cx.rows {
         let fate = fate_of(numbers, cx, r);
         if test(fate) {
             out[n] = value(r, fate);

@@ -1,5 +1,5 @@
 // src/presolve/mod.rs of microlp 0.7.0, changed: the end of `presolve`, list by list.
-// What is left once `settle` has folded every row a last time is written to the result slices, by the
+// What is left once `reduce` has folded every row a last time is written to the result slices, by the
 // fates that `output` judges. A row that is not rewritten goes out as written, fixed terms included,
 // since folded it would have a smaller magnitude and so a tighter tolerance than it is granted; a
 // rewritten one gets its folded terms back for the same reason. The slices are the caller's, who may be
@@ -16,7 +16,6 @@ mod kept;
 mod slots;
 mod spans;
 mod terms;
-mod trivial;
 
 pub use bounds::{bounds_changed, write_bounds};
 pub use entries::{write_emitted, write_rhs};
@@ -24,4 +23,3 @@ pub use fates::Fate;
 pub use kept::write_kept;
 pub use spans::write_spans;
 pub use terms::write_terms;
-pub use trivial::is_trivial;

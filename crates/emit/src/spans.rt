@@ -61,7 +61,7 @@ pub fn write_spans(
 {
     let mut before = 0;
     let mut n = 0;
-    for r in 0..s.rows {
+    for r in 0..cx.rows {
         let with = terms_with(starts, numbers, cx, r, before);
         if fate_of(numbers, cx, r).is_out() {
             let span = span_of(starts, numbers, cx, r, before, with);

@@ -42,7 +42,7 @@ module _ (a : Float) (w : Whole a) (p : pos 0 ⊏ int a) where
   by x n = div_result x a n (whole_num a w) pos_units pos_size
 
   -- v * a against x, in units of 1.0 on both sides
-  pub by_above : (x : Float) → Num x → (v : ℤ) → K.Held v → P v * P (int a) + N (units x) ≤ P (units x) + N v * P (int a) → v ⊑ rank (x ⊘ a)
+  pub by_above : (x : Float) → Num x → (v : ℤ) → K.HeldRank v → P v * P (int a) + N (units x) ≤ P (units x) + N v * P (int a) → v ⊑ rank (x ⊘ a)
   by_above x n v h o = quot_above (rank (x ⊘ a)) v (P (units x) * 2 ^ 1074) (N (units x) * 2 ^ 1074) (mags a) (by x n).quot h
       (subst (λ (m : ℕ). P v * m + N (units x) * 2 ^ 1074 ≤ P (units x) * 2 ^ 1074 + N v * m) (sym pos_mags)
       (rows (P v) (N v) (P (units x)) (N (units x)) (P (int a)) (2 ^ 1074) (mul-le-mul_right (2 ^ 1074) o)))
@@ -50,7 +50,7 @@ module _ (a : Float) (w : Whole a) (p : pos 0 ⊏ int a) where
       rows : (pv nv px nx a L : ℕ) → (pv * a + nx) * L ≤ (px + nv * a) * L → pv * (a * L) + nx * L ≤ px * L + nv * (a * L)
       rows pv nv px nx a L h = omega arith
 
-  pub by_below : (x : Float) → Num x → (v : ℤ) → K.Held v → P (units x) + N v * P (int a) ≤ P v * P (int a) + N (units x) → rank (x ⊘ a) ⊑ v
+  pub by_below : (x : Float) → Num x → (v : ℤ) → K.HeldRank v → P (units x) + N v * P (int a) ≤ P v * P (int a) + N (units x) → rank (x ⊘ a) ⊑ v
   by_below x n v h o = quot_below (rank (x ⊘ a)) v (P (units x) * 2 ^ 1074) (N (units x) * 2 ^ 1074) (mags a) (by x n).quot h
       (subst (λ (m : ℕ). P (units x) * 2 ^ 1074 + N v * m ≤ P v * m + N (units x) * 2 ^ 1074) (sym pos_mags)
       (rows (P v) (N v) (P (units x)) (N (units x)) (P (int a)) (2 ^ 1074) (mul-le-mul_right (2 ^ 1074) o)))

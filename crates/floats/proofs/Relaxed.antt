@@ -340,7 +340,7 @@ half t ht = elim (nonneg_cases ht) [
         real = f;
         below = record {
           le = ⊑→le (½f ⊗ t) t f r (subst (λ (z : ℤ). rank (½f ⊗ t) ⊑ z) (sym is)
-              (product_most ½f t (P (units t)) half_parts.num n (pos_parts ½f (2 ^ 1073) half_parts) l (subst K.Held is (held_of t r))
+              (product_most ½f t (P (units t)) half_parts.num n (pos_parts ½f (2 ^ 1073) half_parts) l (subst K.HeldRank is (held_of t r))
               (Nat.le_trans (le_of_eq (ap (λ (z : ℤ). P z * P (units t)) (parts_units ½f false (2 ^ 1073) half_parts)))
               (Nat.le_trans (mul-le-mul_right (P (units t)) (lit≤ tt)) (le_of_eq (mul_comm (2 ^ 1074) (P (units t))))))));
         };

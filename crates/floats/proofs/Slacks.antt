@@ -56,7 +56,7 @@ product_nonneg x y n m h k =
     (le_trans (le_of_eq (ap (λ (z : ℕ). 0 * 2 ^ 1074 + z) (zero_nq (units x) (units y) h k).0)) zero-le))
 
 -- a held bound on a product of two that are not negative
-pub product_most : (x y : Float) (c : ℕ) → Num x → Num y → pos 0 ⊑ units x → pos 0 ⊑ units y → K.Held (pos c) → P (units x) * P (units y) ≤ c * 2 ^ 1074 → rank (x ⊗ y) ⊑ pos c
+pub product_most : (x y : Float) (c : ℕ) → Num x → Num y → pos 0 ⊑ units x → pos 0 ⊑ units y → K.HeldRank (pos c) → P (units x) * P (units y) ≤ c * 2 ^ 1074 → rank (x ⊗ y) ⊑ pos c
 product_most x y c n m h k w o =
     let Q = mul_result x y n m in
     let z = zero_nq (units x) (units y) h k in
@@ -99,8 +99,8 @@ floor_parts : Parts (of_bits binary64 0x3d06_849b_86a1_2b9b) false (633825300114
 unfolding of_bits mags sign fits
 floor_parts = record { num = (tt, tt); sgn = refl; mag = refl }
 
-pub eighths_held : K.Held (pos (3 * 2 ^ 1071))
-eighths_held = subst K.Held (rank_num ⅜f eighths.num ∙ parts_units ⅜f false (3 * 2 ^ 1071) eighths) (held_of ⅜f (num_real ⅜f eighths.num))
+pub eighths_held : K.HeldRank (pos (3 * 2 ^ 1071))
+eighths_held = subst K.HeldRank (rank_num ⅜f eighths.num ∙ parts_units ⅜f false (3 * 2 ^ 1071) eighths) (held_of ⅜f (num_real ⅜f eighths.num))
 
 pub most_units : (t : ℕ) (m : Float) → Bounded t m → P (units m) ≤ t * 2 ^ 1074
 most_units t m b = le_trans (le_of_eq (ap P (to_units m b.whole).val ∙ P_sc (2 ^ 1074) (int m))) (mul-le-mul_right (2 ^ 1074) (left (P (int m)) (N (int m)) t b.small))
@@ -141,7 +141,7 @@ rest {x} {y} a b = go (lt (x ⊖ y) 0f) refl
 
     high : rank (x ⊖ y) ⊑ pos (3 * 2 ^ 1071)
     high = link (rank (x ⊖ y)) (units x) (pos (3 * 2 ^ 1071))
-        (sub_below x y (tol_num a) (tol_num b) (units x) (subst K.Held (rank_num x (tol_num a)) (held_of x (tol_real a)))
+        (sub_below x y (tol_num a) (tol_num b) (units x) (subst K.HeldRank (rank_num x (tol_num a)) (held_of x (tol_real a)))
         (smaller (units x) (units y) (tol_least b))) (tol_most a)
 
     go : (t : Bool) → lt (x ⊖ y) 0f ≡ t → Tol (maxf (x ⊖ y) 0f)

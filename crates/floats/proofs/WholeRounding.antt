@@ -116,16 +116,16 @@ one w p n h = omega arith
 pub one' : (w : ℤ) (p n : ℕ) → p + N w ≤ P w + n → p + N w * 1 ≤ P w * 1 + n
 one' w p n h = omega arith
 
-pub sum_above : (x y : Float) → Num x → Num y → (w : ℤ) → K.Held w → w ⊑ units x +ℤ units y → w ⊑ rank (x ⊕ y)
+pub sum_above : (x y : Float) → Num x → Num y → (w : ℤ) → K.HeldRank w → w ⊑ units x +ℤ units y → w ⊑ rank (x ⊕ y)
 sum_above x y hx hy w hw o = let z = units x +ℤ units y in quot_above (rank (x ⊕ y)) w (P z) (N z) 1 (sum_result x y hx hy).quot hw (one w (P z) (N z) o)
 
-pub sum_below : (x y : Float) → Num x → Num y → (w : ℤ) → K.Held w → units x +ℤ units y ⊑ w → rank (x ⊕ y) ⊑ w
+pub sum_below : (x y : Float) → Num x → Num y → (w : ℤ) → K.HeldRank w → units x +ℤ units y ⊑ w → rank (x ⊕ y) ⊑ w
 sum_below x y hx hy w hw o = let z = units x +ℤ units y in quot_below (rank (x ⊕ y)) w (P z) (N z) 1 (sum_result x y hx hy).quot hw (one' w (P z) (N z) o)
 
-pub sub_above : (x y : Float) → Num x → Num y → (w : ℤ) → K.Held w → w ⊑ units x -ℤ units y → w ⊑ rank (x ⊖ y)
+pub sub_above : (x y : Float) → Num x → Num y → (w : ℤ) → K.HeldRank w → w ⊑ units x -ℤ units y → w ⊑ rank (x ⊖ y)
 sub_above x y hx hy w hw o = let z = units x -ℤ units y in quot_above (rank (x ⊖ y)) w (P z) (N z) 1 (sub_result x y hx hy).quot hw (one w (P z) (N z) o)
 
-pub sub_below : (x y : Float) → Num x → Num y → (w : ℤ) → K.Held w → units x -ℤ units y ⊑ w → rank (x ⊖ y) ⊑ w
+pub sub_below : (x y : Float) → Num x → Num y → (w : ℤ) → K.HeldRank w → units x -ℤ units y ⊑ w → rank (x ⊖ y) ⊑ w
 sub_below x y hx hy w hw o = let z = units x -ℤ units y in quot_below (rank (x ⊖ y)) w (P z) (N z) 1 (sub_result x y hx hy).quot hw (one' w (P z) (N z) o)
 
 -- a sum with an infinity
@@ -280,7 +280,7 @@ ceil_whole {l} {h} {y} a b hy o k = elim (cases y (ceil_real y hy (le_real l (ce
 ]
 
 -- ---- whole multiples of a power of two are held
-pub held_scaled : (z : ℤ) (k : ℕ) → A z ≤ 2 ^ 53 → 2 ^ 53 * 2 ^ k ≤ 2 ^ 2098 → K.Held (sc (2 ^ k) z)
+pub held_scaled : (z : ℤ) (k : ℕ) → A z ≤ 2 ^ 53 → 2 ^ 53 * 2 ^ k ≤ 2 ^ 2098 → K.HeldRank (sc (2 ^ k) z)
 held_scaled z k h b =
     record {
       rep = record { p = subst Rep (sym (P_sc (2 ^ k) z)) (rep_scaled (P z) k (omega arith)); n = subst Rep (sym (N_sc (2 ^ k) z)) (rep_scaled (N z) k (omega arith)) };
@@ -294,7 +294,7 @@ held_scaled z k h b =
     right : (p n t : ℕ) → p + n ≤ t → n ≤ t
     right p n t h = omega arith
 
-pub zero_held : K.Held (pos 0)
+pub zero_held : K.HeldRank (pos 0)
 zero_held = record { rep = record { p = rep_zero; n = rep_zero }; low = zero-le; high = zero-le }
 
 -- sizes of such multiples
@@ -347,13 +347,13 @@ module _ (l : Float) (b : Bounded (2 ^ 20) l) (m k d : ℕ) (l_is : 2 ^ 1074 ≡
   unit = refl
 
   -- both are held
-  pub held_less : K.Held (units l -ℤ pos (d * 2 ^ k))
-  held_less = subst K.Held (sym (ap (λ (u : ℤ). u -ℤ pos (d * 2 ^ k)) part ∙ ap (λ (u : ℤ). sc (2 ^ k) (sc m (int l)) -ℤ u) unit
+  pub held_less : K.HeldRank (units l -ℤ pos (d * 2 ^ k))
+  held_less = subst K.HeldRank (sym (ap (λ (u : ℤ). u -ℤ pos (d * 2 ^ k)) part ∙ ap (λ (u : ℤ). sc (2 ^ k) (sc m (int l)) -ℤ u) unit
       ∙ W.sc_sub (2 ^ k) (sc m (int l)) (pos d)))
       (held_scaled (sc m (int l) -ℤ pos d) k (Nat.le_trans (near_size m d (int l) (pos d) (2 ^ 20) b.small (le_of_eq (Nat.add-zero d))).0 fine) cap)
 
-  pub held_more : K.Held (units l +ℤ pos (d * 2 ^ k))
-  held_more = subst K.Held (sym (ap (λ (u : ℤ). u +ℤ pos (d * 2 ^ k)) part ∙ ap (λ (u : ℤ). sc (2 ^ k) (sc m (int l)) +ℤ u) unit
+  pub held_more : K.HeldRank (units l +ℤ pos (d * 2 ^ k))
+  held_more = subst K.HeldRank (sym (ap (λ (u : ℤ). u +ℤ pos (d * 2 ^ k)) part ∙ ap (λ (u : ℤ). sc (2 ^ k) (sc m (int l)) +ℤ u) unit
       ∙ W.sc_add (2 ^ k) (sc m (int l)) (pos d)))
       (held_scaled (sc m (int l) +ℤ pos d) k (Nat.le_trans (near_size m d (int l) (pos d) (2 ^ 20) b.small (le_of_eq (Nat.add-zero d))).1 fine) cap)
 
@@ -465,7 +465,7 @@ round_lower {l} {t} b h =
     let nt = tol_num h in
     let r = l ⊖ t in
     let low = less_low l b 8 1071 3 refl (lit≤ tt) (lit≤ tt) t nt (tol_most h) in
-    let high : rank r ⊑ units l = sub_below l t nl nt (units l) (subst K.Held (rank_num l nl) (held_of l (num_real l nl))) (smaller (units l) (units t) (tol_least h)) in
+    let high : rank r ⊑ units l = sub_below l t nl nt (units l) (subst K.HeldRank (rank_num l nl) (held_of l (num_real l nl))) (smaller (units l) (units t) (tol_least h)) in
     let nr = small_num r (2 ^ 20 * 2 ^ 1074 + 3 * 2 ^ 1071) (sub_result l t nl nt).real (within (units l) (rank r) (2 ^ 20 * 2 ^ 1074) (3 * 2 ^ 1071) (bound_size l b) low high) (lit< tt) in
     let F = ceil_value r nr in
     let ur = rank_num r nr in
@@ -491,7 +491,7 @@ round_upper {l} {t} b h =
     let nt = tol_num h in
     let r = l ⊕ t in
     let high = more_high l b 8 1071 3 refl (lit≤ tt) (lit≤ tt) t nt (tol_most h) in
-    let low : units l ⊑ rank r = sum_above l t nl nt (units l) (subst K.Held (rank_num l nl) (held_of l (num_real l nl))) (larger (units l) (units t) (tol_least h)) in
+    let low : units l ⊑ rank r = sum_above l t nl nt (units l) (subst K.HeldRank (rank_num l nl) (held_of l (num_real l nl))) (larger (units l) (units t) (tol_least h)) in
     let nr = small_num r (2 ^ 20 * 2 ^ 1074 + 3 * 2 ^ 1071) (sum_result l t nl nt).real (within (units l) (rank r) (2 ^ 20 * 2 ^ 1074) (3 * 2 ^ 1071) (bound_size l b) low high) (lit< tt) in
     let F = floor_value r nr in
     let ur = rank_num r nr in

@@ -20,7 +20,7 @@ use Rattle.folds.specs.Apart.{nnz_is}
 use Rattle.folds.specs.Sized.{Sized}
 use Rattle.folds.specs.Written.{eqb_same, eqb_differ, span_length, span_at}
 use Rattle.folds.specs.Counting.{all_at}
-use Rattle.folds.specs.Stands.{Stands, Standing, Tells, TellsN}
+use Rattle.folds.specs.Stands.{Stands, Standing, TellsRow, TellsN}
 use Rattle.folds.specs.FoldStep.{in_model, in_rows, start_is, stop_is}
 
 -- the k numbers from place a on
@@ -175,7 +175,7 @@ module _ {starts : List ℕ} {s : Context} {r : ℕ} (bs : List ℕ) (f : Floats
 
 pub besides_end : {s : Context} {starts : List ℕ} {r : ℕ} (f : Floats) (n : Numbers) {j a k m : ℕ} {sum : Float} → r < s.rows → Sized s f n → a ≡ get_or starts r 0
     → k ≡ get_or n.binaries r 0 → m ≡ get_or n.folded r 0
-    → Summed starts s r (listed a k n.binary) f n j sum → m ≤ j → j ≤ m → Tells (Spans starts) s r f n sum (λ M w x. fixed_besides w x (binaries_of x.binding))
+    → Summed starts s r (listed a k n.binary) f n j sum → m ≤ j → j ≤ m → TellsRow (Spans starts) s r f n sum (λ M w x. fixed_besides w x (binaries_of x.binding))
 unfolding fixed_besides
 besides_end {r = r} f n {j} {a} {k} {m} {sum} p z ea ek em h q t =
     record {

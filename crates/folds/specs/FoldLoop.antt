@@ -9,9 +9,9 @@ use Rattle.space.specs.Store.{Floats, Numbers}
 use Rattle.view.specs.Call.{Call}
 use Rattle.view.specs.Known.{Spans}
 use Rattle.view.specs.Rows.{OneRow}
-use Rattle.folds.specs.Stands.{Stands, Standing, Turns, Tells, one_then, one_none, stands_after}
+use Rattle.folds.specs.Stands.{Stands, Standing, Turns, TellsRow, one_then, one_none, stands_after}
 use Rattle.folds.specs.Keeping.{folds_inv, Looked, step_looked, turns_looked, loop_snoc}
-use Rattle.folds.specs.FoldStep.{Steps}
+use Rattle.folds.specs.FoldStep.{FoldSteps}
 
 -- after j turns, the next one at place i; k is how many there are
 pub record Turned (starts : List ℕ) (s : Context) (r k i j : ℕ) (f₀ : Floats) (n₀ : Numbers) (f : Floats) (n : Numbers) : Type 0 where
@@ -20,7 +20,7 @@ pub record Turned (starts : List ℕ) (s : Context) (r k i j : ℕ) (f₀ : Floa
   pub standing : Standing (Spans starts) s r f n
   pub rest : i + (k - j) ≡ get_or n.len r 0
   pub row : Turns (Spans starts) s r f₀ n₀ f n (λ M w x. (fold_loop j w (0, x)).1)
-  pub place : Tells (Spans starts) s r f₀ n₀ i (λ M w x. (fold_loop j w (0, x)).0)
+  pub place : TellsRow (Spans starts) s r f₀ n₀ i (λ M w x. (fold_loop j w (0, x)).0)
 
 no_turn : (w : Work) (s : ℕ × Row) → fold_loop 0 w s ≡ s
 unfolding fold_loop
@@ -41,7 +41,7 @@ module _ {starts : List ℕ} {s : Context} {r k i j : ℕ} {f₀ f : Floats} {n�
   pub turn_at : j < k → i < get_or n.len r 0
   turn_at q = omega (arith, q, T.rest)
 
-  module _ {z : ℕ} {f₁ : Floats} {n₁ : Numbers} (q : j < k) (S : Steps (Spans starts) s r i f n f₁ n₁ z) where
+  module _ {z : ℕ} {f₁ : Floats} {n₁ : Numbers} (q : j < k) (S : FoldSteps (Spans starts) s r i f n f₁ n₁ z) where
     abbrev G : Standing (Spans starts) s r f n
     G = T.standing
 

@@ -22,7 +22,7 @@ use Rattle.folds.specs.Apart.{nnz_is}
 use Rattle.folds.specs.Sized.{Sized}
 use Rattle.folds.specs.Written.{span_at, indices}
 use Rattle.folds.specs.Counting.{true_false, eqb_true, all_at}
-use Rattle.folds.specs.Stands.{Stands, Standing, Turns, Tells, one_then, one_none, stands_after}
+use Rattle.folds.specs.Stands.{Stands, Standing, Turns, TellsRow, one_then, one_none, stands_after}
 use Rattle.folds.specs.Folding.{swap_f, swap_n, push_f, push_n, shift_f, with_folded, shifted, swap_length, swap_one, push_one, shift_one}
 
 -- `fixed`, of the blocks
@@ -86,9 +86,9 @@ module _ (w : Work) (i : ℕ) (x : Row) where
   fold_is t = refl
 
 -- what fold_step promises
-pub record Steps (P : Model → Type 0) (s : Context) (r i : ℕ) (f : Floats) (n : Numbers) (f' : Floats) (n' : Numbers) (z : ℕ) : Type 0 where
+pub record FoldSteps (P : Model → Type 0) (s : Context) (r i : ℕ) (f : Floats) (n : Numbers) (f' : Floats) (n' : Numbers) (z : ℕ) : Type 0 where
   pub row : Turns P s r f n f' n' (λ M w x. (fold_step w (i, x)).1)
-  pub place : Tells P s r f n z (λ M w x. (fold_step w (i, x)).0)
+  pub place : TellsRow P s r f n z (λ M w x. (fold_step w (i, x)).0)
 
 -- ---- the span of a row that stands there
 module _ {s : Context} {starts : List ℕ} {r : ℕ} {f : Floats} {n : Numbers} (p : r < s.rows) (G : Standing (Spans starts) s r f n) where
@@ -190,7 +190,7 @@ module _ {s : Context} {starts : List ℕ} (r i : ℕ) {a : ℕ} (f : Floats) (n
             ∙ sym (fold_is w i x (term v y)) ∙ ap (λ (u : Term). fold_term w i u x) term_is)
             (one_then swapped (one_then pushed shift_now))
 
-  pub fold_zero : {f₁ : Floats} {n₁ : Numbers} → eq y 0f ≡ true → f₁ ≡ swap_f a i (get_or n.len r 0) f → n₁ ≡ swap_n r a i (get_or n.len r 0) n → Steps (Spans starts) s r i f n f₁ n₁ i
+  pub fold_zero : {f₁ : Floats} {n₁ : Numbers} → eq y 0f ≡ true → f₁ ≡ swap_f a i (get_or n.len r 0) f → n₁ ≡ swap_n r a i (get_or n.len r 0) n → FoldSteps (Spans starts) s r i f n f₁ n₁ i
   fold_zero {f₁} {n₁} e e₁ g₁ =
       record {
         row = record { does = λ M w x k c h. subst (λ (u : ℕ × Row). OneRow M r u.1 f n f₁ n₁) (sym (step_zero w i x (test_is M w x k c h e))) (swapped M w x k c h e₁ g₁) };
@@ -200,7 +200,7 @@ module _ {s : Context} {starts : List ℕ} (r i : ℕ) {a : ℕ} (f : Floats) (n
   pub fold_fixed_term : {f₁ f₂ f₃ : Floats} {n₁ n₂ : Numbers} {e : ℕ} {t : Float} {b : Bool} → eq y 0f ≡ false → b ≡ fixed_in f v → b ≡ true
       → t ≡ get_or f.elo v nan → f₁ ≡ swap_f a i (get_or n.len r 0) f
       → n₁ ≡ swap_n r a i (get_or n.len r 0) n → Sized s f₁ n₁ → e ≡ get_or starts (r + 1) 0 → f₂ ≡ push_f e (get_or n₁.folded r 0) y f₁ → n₂ ≡ push_n r e (get_or n₁.folded r 0) v n₁ → Sized s f₂ n₂
-      → f₃ ≡ shift_f r (y ⊗ t) f₂ → Steps (Spans starts) s r i f n f₃ n₂ i
+      → f₃ ≡ shift_f r (y ⊗ t) f₂ → FoldSteps (Spans starts) s r i f n f₃ n₂ i
   fold_fixed_term {f₁} {f₂} {f₃} {n₁} {n₂} nz eb bt et e₁ g₁ z₁ ee e₂ g₂ z₂ e₃ =
       record {
         row = record {
@@ -211,7 +211,7 @@ module _ {s : Context} {starts : List ℕ} (r i : ℕ) {a : ℕ} (f : Floats) (n
         place = record { tells = λ M w x k c h. ap (λ (u : ℕ × Row). u.0) (step_fold w i x (test_is M w x k c h nz) (fixed_too M w x k c h eb bt)) };
       }
 
-  pub fold_stay : {b : Bool} → eq y 0f ≡ false → b ≡ fixed_in f v → b ≡ false → Steps (Spans starts) s r i f n f n (i + 1)
+  pub fold_stay : {b : Bool} → eq y 0f ≡ false → b ≡ fixed_in f v → b ≡ false → FoldSteps (Spans starts) s r i f n f n (i + 1)
   fold_stay nz eb bf =
       record {
         row = record { does = λ M w x k c h. subst (λ (u : ℕ × Row). OneRow M r u.1 f n f n) (sym (step_stay w i x (test_is M w x k c h nz) (fixed_too M w x k c h eb bf))) (one_none h) };

@@ -18,8 +18,8 @@ use Rattle.view.specs.Shows.{Parts, BindingShown, unbound, is_bound}
 use Rattle.view.specs.Known.{Spans, Written, written_spans}
 use Rattle.view.specs.Lists.{yes, no}
 use Rattle.view.specs.Rows.{OneRow}
-use Rattle.folds.specs.Written.{Given, Writes}
-use Rattle.folds.specs.Stands.{Stands, Standing, Turns, Tells, one_then, one_none, stands_after, standing_under, turns_under}
+use Rattle.folds.specs.Written.{Described, WritesRow}
+use Rattle.folds.specs.Stands.{Stands, Standing, Turns, TellsRow, one_then, one_none, stands_after, standing_under, turns_under}
 use Rattle.folds.specs.Keeping.{loop_folds}
 use Rattle.folds.specs.Relaxing.{bound_of, unbound_is}
 use Rattle.folds.specs.WrittenInv.{as_written_inv, as_written_alive, as_written_unbound}
@@ -64,7 +64,7 @@ abbrev pub looped : Model → Work → Row → Row
 looped M w x = (fold_loop (length x.terms) w (0, x)).1
 
 module _ {rows : Rows} {s : Context} {r : ℕ} {f : Floats} {n : Numbers} (G : Standing (Written rows) s r f n) where
-  pub given : Given (Written rows) s
+  pub given : Described (Written rows) s
   given = record { model = G.model; known = G.known; call = G.call }
 
   pub in_spans : Standing (Spans rows.starts.now) s r f n
@@ -83,7 +83,7 @@ module _ {rows : Rows} {s : Context} {r : ℕ} {f : Floats} {n : Numbers} (G : S
       let o = t.does G.model G.work G.row (written_spans G.model G.known) G.call G.stands in
       weight_is (o.now (d.alive ∙ G.stands.alive)).binding ∙ ap weight_of d.binding ∙ sym (weight_is G.stands.shown.binding)
 
-  module _ {f₁ : Floats} {n₁ : Numbers} (W : Writes (Written rows) s r f n f₁ n₁ (λ M. as_written M r)) where
+  module _ {f₁ : Floats} {n₁ : Numbers} (W : WritesRow (Written rows) s r f n f₁ n₁ (λ M. as_written M r)) where
     back : OneRow G.model r (as_written G.model r) f n f₁ n₁
     back = W.does G.model G.known G.call
 
@@ -108,9 +108,9 @@ module _ {rows : Rows} {s : Context} {r : ℕ} {f : Floats} {n : Numbers} (G : S
         omega (arith, a, b)
 
 -- ---- hold_rewrites
-pub record Holds (P : Model → Type 0) (s : Context) (r : ℕ) (f : Floats) (n : Numbers) (f' : Floats) (n' : Numbers) (z : Bool) : Type 0 where
+pub record HoldsRow (P : Model → Type 0) (s : Context) (r : ℕ) (f : Floats) (n : Numbers) (f' : Floats) (n' : Numbers) (z : Bool) : Type 0 where
   pub row : Turns P s r f n f' n' (λ M. hold_rewrites M r)
-  pub back : Tells P s r f n z (λ M w x. gives_back x)
+  pub back : TellsRow P s r f n z (λ M w x. gives_back x)
 
 and_lo : (a b : Bool) → a && not true && b ≡ false
 and_lo true b = refl
@@ -134,7 +134,7 @@ unfolding gives_back bound?
 gives_all x b e l h = rw (e, l, h)
 
 -- it is not given back
-held : {P : Model → Type 0} {s : Context} {r : ℕ} {f : Floats} {n : Numbers} → ((M : Model) (w : Work) (x : Row) → P M → Call M s → Stands M r f n w x → gives_back x ≡ false) → Holds P s r f n f n false
+held : {P : Model → Type 0} {s : Context} {r : ℕ} {f : Floats} {n : Numbers} → ((M : Model) (w : Work) (x : Row) → P M → Call M s → Stands M r f n w x → gives_back x ≡ false) → HoldsRow P s r f n f n false
 unfolding hold_rewrites
 held {P} {s} {r} {f} {n} g =
     record {
@@ -143,20 +143,20 @@ held {P} {s} {r} {f} {n} g =
     }
 
 module _ {P : Model → Type 0} {s : Context} {r : ℕ} (f : Floats) (n : Numbers) {k : ℕ} (ek : k ≡ get_or n.binaries r 0) where
-  pub hold_none : k ≡ 0 → Holds P s r f n f n false
+  pub hold_none : k ≡ 0 → HoldsRow P s r f n f n false
   hold_none e = held (λ M w x p c h. gives_none x (unbound_is h.shown.binding (sym ek ∙ e)))
 
   module _ {lo : Float} {bl : Bool} (el : lo ≡ get_or f.lo r nan) (ebl : bl ≡ is_finite lo) where
-    pub hold_lo : bl ≡ true → Holds P s r f n f n false
+    pub hold_lo : bl ≡ true → HoldsRow P s r f n f n false
     hold_lo t = held (λ M w x p c h. gives_lo x (ap is_finite (sym (el ∙ h.shown.lo)) ∙ sym ebl ∙ t))
 
     module _ {hi : Float} {bh : Bool} (eh : hi ≡ get_or f.hi r nan) (ebh : bh ≡ is_finite hi) where
-      pub hold_hi : bh ≡ true → Holds P s r f n f n false
+      pub hold_hi : bh ≡ true → HoldsRow P s r f n f n false
       hold_hi t = held (λ M w x p c h. gives_hi x (ap is_finite (sym (eh ∙ h.shown.hi)) ∙ sym ebh ∙ t))
 
-      pub hold_back : {f₁ f₂ : Floats} {n₁ n₂ : Numbers} → r < s.rows → (k ≡ 0 → ⊥) → bl ≡ false → bh ≡ false → Writes P s r f n f₁ n₁ (λ M. as_written M r)
+      pub hold_back : {f₁ f₂ : Floats} {n₁ n₂ : Numbers} → r < s.rows → (k ≡ 0 → ⊥) → bl ≡ false → bh ≡ false → WritesRow P s r f n f₁ n₁ (λ M. as_written M r)
           → Turns P s r f₁ n₁ f₂ n₂ (λ M. fold_fixed M r)
-          → Holds P s r f n f₂ n₂ true
+          → HoldsRow P s r f n f₂ n₂ true
       unfolding hold_rewrites
       hold_back {f₁} {f₂} {n₁} {n₂} q ne fl fh W T =
           record {
@@ -209,7 +209,7 @@ module _ {P : Model → Type 0} {s : Context} {r : ℕ} (f : Floats) (n : Number
   pub fold_less : after ≤ before → Turns P s r f n f₁ n₁ (λ M. fold_fixed M r)
   fold_less q = record { does = λ M w x p c h. subst (λ (u : Row). OneRow M r u f n f₁ n₁) (sym (less M w x p c h q)) (one M w x p c h) }
 
-  pub fold_more : {f₂ f₃ : Floats} {n₂ n₃ : Numbers} {z : Bool} → before < after → Turns P s r f₁ n₁ f₂ n₂ relax_binding → Holds P s r f₂ n₂ f₃ n₃ z → Turns P s r f n f₃ n₃ (λ M. fold_fixed M r)
+  pub fold_more : {f₂ f₃ : Floats} {n₂ n₃ : Numbers} {z : Bool} → before < after → Turns P s r f₁ n₁ f₂ n₂ relax_binding → HoldsRow P s r f₂ n₂ f₃ n₃ z → Turns P s r f n f₃ n₃ (λ M. fold_fixed M r)
   fold_more {f₂} {f₃} {n₂} {n₃} q u v =
       record {
         does = λ M w x p c h.

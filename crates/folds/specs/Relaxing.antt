@@ -17,7 +17,7 @@ use Rattle.view.specs.Lists.{yes, no}
 use Rattle.view.specs.Rows.{OneRow}
 use Rattle.formulas.specs.Bare.{ByTol}
 use Rattle.folds.specs.Apart.{Apart, elsewhere, untouched, outside, other_shown}
-use Rattle.folds.specs.Stands.{Stands, Turns, Tells, one_then, one_none, stands_after}
+use Rattle.folds.specs.Stands.{Stands, Turns, TellsRow, one_then, one_none, stands_after}
 use Rattle.folds.specs.Folding.{binding_same}
 use Rattle.folds.specs.Besides.{binaries_of}
 
@@ -286,7 +286,7 @@ module _ {s : Context} {starts : List ℕ} {r : ℕ} (f : Floats) (n : Numbers) 
         does = λ M w x g c h. subst (λ (u : Row). OneRow M r u f n f n) (sym (relax_unbound M w x (unbound_is h.shown.binding (sym ek ∙ e)))) (one_none h);
       }
 
-  module _ {fx wr re kept old : Float} (ne : k ≡ 0 → ⊥) (ef : Tells (Spans starts) s r f n fx (λ M w x. fixed_besides w x (binaries_of x.binding))) (ew : wr ≡ get_or f.written r nan)
+  module _ {fx wr re kept old : Float} (ne : k ≡ 0 → ⊥) (ef : TellsRow (Spans starts) s r f n fx (λ M w x. fixed_besides w x (binaries_of x.binding))) (ew : wr ≡ get_or f.written r nan)
       (er : re ≡ get_or f.rewritten r nan) (ez : ByTol s.feas kept (λ M. rewrite_room M wr re fx)) (eo : old ≡ get_or f.kept r nan) where
     module _ (M : Model) (w : Work) (x : Row) (g : Spans starts M) (c : Call M s) (h : Stands M r f n w x) where
       bound : Bound M (parts_of f n) r x.binding

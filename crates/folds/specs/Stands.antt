@@ -35,7 +35,7 @@ pub record Turns (P : Model → Type 0) (s : Context) (r : ℕ) (f : Floats) (n 
   pub does : (M : Model) (w : Work) (x : Row) → P M → Call M s → Stands M r f n w x → OneRow M r (F M w x) f n f' n'
 
 -- what it tells of the row
-pub record Tells {A : Type 0} (P : Model → Type 0) (s : Context) (r : ℕ) (f : Floats) (n : Numbers) (z : A) (F : Model → Work → Row → A) : Type 0 where
+pub record TellsRow {A : Type 0} (P : Model → Type 0) (s : Context) (r : ℕ) (f : Floats) (n : Numbers) (z : A) (F : Model → Work → Row → A) : Type 0 where
   pub tells : (M : Model) (w : Work) (x : Row) → P M → Call M s → Stands M r f n w x → F M w x ≡ z
 
 -- what a function asks and tells of a row that has the numbers alone: whatever the floats are
@@ -119,7 +119,7 @@ turns_acts {r = r} {F = F} p e t =
           shows_row r (F M w (get_or w.rows r no_row)) w (omega (arith, p, c.rows)) h i (t.does M w (get_or w.rows r no_row) x c (stands_in c p e h));
     }
 
-pub tells_reads : {A : Type 0} {P : Model → Type 0} {s : Context} {r : ℕ} {f : Floats} {n : Numbers} {z : A} {F : Model → Work → Row → A} → r < s.rows → get_or n.alive r 0 ≡ 1 → Tells P s r f n z F
+pub tells_reads : {A : Type 0} {P : Model → Type 0} {s : Context} {r : ℕ} {f : Floats} {n : Numbers} {z : A} {F : Model → Work → Row → A} → r < s.rows → get_or n.alive r 0 ≡ 1 → TellsRow P s r f n z F
     → Reads P s f n z (λ M w. F M w (get_or w.rows r no_row))
 tells_reads {r = r} p e t = record { reads = λ M o k w x c h i. t.tells M w (get_or w.rows r no_row) x c (stands_in c p e h) }
 

@@ -39,7 +39,7 @@ eqb_differ (suc x) zero n = eqb-suc-zero x
 eqb_differ (suc x) (suc k) n = eqb-suc-suc x k ∙ eqb_differ x k (λ e. n (ap suc e))
 
 -- a model that the read-only slices have: what a function asks that the working slices need not show anything for
-pub record Given (P : Model → Type 0) (s : Context) : Type 0 where
+pub record Described (P : Model → Type 0) (s : Context) : Type 0 where
   pub model : Model
   pub known : P model
   pub call : Call model s
@@ -78,7 +78,7 @@ pub sides_in : (op : ℕ) (b : Float) {c d : Comparison} → c ≡ comparison_of
 sides_in op b e g = ap (λ (u : Comparison). sides_by u b) (sym g ∙ e) ∙ sides_byte op b
 
 -- what such a function promises: row r shows X, and the rest shows what it did
-pub record Writes (P : Model → Type 0) (s : Context) (r : ℕ) (f : Floats) (n : Numbers) (f' : Floats) (n' : Numbers) (X : Model → Row) : Type 0 where
+pub record WritesRow (P : Model → Type 0) (s : Context) (r : ℕ) (f : Floats) (n : Numbers) (f' : Floats) (n' : Numbers) (X : Model → Row) : Type 0 where
   pub does : (M : Model) → P M → Call M s → OneRow M r (X M) f n f' n'
 
 -- ---- the input row's terms
@@ -163,7 +163,7 @@ with_vars vs f = record {
   binary = f.binary;
 }
 
-pub record Copied (is : List ℕ) (cs : List Float) (a e : ℕ) (f : Floats) (n : Numbers) (f' : Floats) (n' : Numbers) : Type 0 where
+pub record TermsCopied (is : List ℕ) (cs : List Float) (a e : ℕ) (f : Floats) (n : Numbers) (f' : Floats) (n' : Numbers) : Type 0 where
   pub new_coeffs : List Float
   pub new_vars : List ℕ
   pub floats : f' ≡ with_coeffs new_coeffs f
@@ -173,7 +173,7 @@ pub record Copied (is : List ℕ) (cs : List Float) (a e : ℕ) (f : Floats) (n 
   pub other_coeffs : (k : ℕ) → (k < a) ⊎ (e ≤ k) → at new_coeffs k ≡ at f.coeffs k
   pub other_vars : (k : ℕ) → (k < a) ⊎ (e ≤ k) → get_or new_vars k 0 ≡ get_or n.vars k 0
 
-pub copied_none : {is : List ℕ} {cs : List Float} {a : ℕ} {f : Floats} {n : Numbers} → Copied is cs a a f n f n
+pub copied_none : {is : List ℕ} {cs : List Float} {a : ℕ} {f : Floats} {n : Numbers} → TermsCopied is cs a a f n f n
 copied_none {f = f} {n} =
     record {
       new_coeffs = f.coeffs;
@@ -199,8 +199,8 @@ module _ {A : Type 0} (d : A) (old src l : List A) {a i : ℕ} {x : A} (long : i
   copy_other p h k (inl q) = get_or-set_other l i k x d (λ z. omega arith) ∙ h k (inl q)
   copy_other p h k (inr q) = get_or-set_other l i k x d (λ z. omega arith) ∙ h k (inr (omega arith))
 
-pub copied_more : {s : Context} {is : List ℕ} {cs : List Float} {a i v : ℕ} {x : Float} {f f₁ f₂ : Floats} {n n₁ n₂ : Numbers} → Copied is cs a i f n f₁ n₁ → Sized s f₁ n₁ → a ≤ i → i < s.terms
-    → v ≡ get_or is i 0 → n₂ ≡ put_vars i v n₁ → x ≡ get_or cs i nan → f₂ ≡ put_coeffs i x f₁ → Copied is cs a (i + 1) f n f₂ n₂
+pub copied_more : {s : Context} {is : List ℕ} {cs : List Float} {a i v : ℕ} {x : Float} {f f₁ f₂ : Floats} {n n₁ n₂ : Numbers} → TermsCopied is cs a i f n f₁ n₁ → Sized s f₁ n₁ → a ≤ i → i < s.terms
+    → v ≡ get_or is i 0 → n₂ ≡ put_vars i v n₁ → x ≡ get_or cs i nan → f₂ ≡ put_coeffs i x f₁ → TermsCopied is cs a (i + 1) f n f₂ n₂
 copied_more {s} {is} {cs} {a} {i} {v} {x} {f} {f₁} {f₂} {n} {n₁} {n₂} h z p l ev en ex ef =
     let lc : i < length h.new_coeffs = omega (arith, l, z.coeffs, ap (λ (g : Floats). length g.coeffs) h.floats) in
     let lv : i < length h.new_vars = omega (arith, l, z.vars, ap (λ (g : Numbers). length g.vars) h.numbers) in
@@ -215,8 +215,8 @@ copied_more {s} {is} {cs} {a} {i} {v} {x} {f} {f₁} {f₂} {n} {n₁} {n₂} h 
       other_vars = copy_other 0 n.vars is h.new_vars lv ev p h.other_vars;
     }
 
-pub copied_end : {is : List ℕ} {cs : List Float} {a i e : ℕ} {f f' : Floats} {n n' : Numbers} → Copied is cs a i f n f' n' → e ≤ i → i ≤ e → Copied is cs a e f n f' n'
-copied_end {is} {cs} {a} {i} {e} {f} {f'} {n} {n'} h p q = let z : i ≡ e = omega arith in subst (λ (j : ℕ). Copied is cs a j f n f' n') z h
+pub copied_end : {is : List ℕ} {cs : List Float} {a i e : ℕ} {f f' : Floats} {n n' : Numbers} → TermsCopied is cs a i f n f' n' → e ≤ i → i ≤ e → TermsCopied is cs a e f n f' n'
+copied_end {is} {cs} {a} {i} {e} {f} {f'} {n} {n'} h p q = let z : i ≡ e = omega arith in subst (λ (j : ℕ). TermsCopied is cs a j f n f' n') z h
 
 -- ---- as_written: the stores after the terms
 abbrev pub sides_put : ℕ → Float → Float → Floats → Floats
@@ -259,7 +259,7 @@ module _ {s : Context} {M : Model} (c : Call M s) where
 
 module _ {s : Context} {rows : Rows} where
   -- what the read-only slices hold of row r
-  module _ (G : Given (Written rows) s) {r : ℕ} (p : r < s.rows) where
+  module _ (G : Described (Written rows) s) {r : ℕ} (p : r < s.rows) where
     abbrev M₀ : Model
     M₀ = G.model
 
@@ -284,7 +284,7 @@ module _ {s : Context} {rows : Rows} where
     span_within = omega (arith, upto_is, G.call.last r in_rows, G.call.terms)
 
   module _ {r a e : ℕ} {lo hi : Float} {f f₁ : Floats} {n n₁ : Numbers} (p : r < s.rows) (z : Sized s f n) (ea : a ≡ get_or rows.starts.now r 0) (ee : e ≡ get_or rows.starts.now (r + 1) 0)
-      (es : (lo, hi) ≡ sides_of (get_or rows.cmp.now r 0) (get_or rows.rhs.now r nan)) (h : Copied rows.index.now rows.coeff.now a e f n f₁ n₁) where
+      (es : (lo, hi) ≡ sides_of (get_or rows.cmp.now r 0) (get_or rows.rhs.now r nan)) (h : TermsCopied rows.index.now rows.coeff.now a e f n f₁ n₁) where
     module _ (M : Model) (k : Written rows M) (c : Call M s) where
       l : r < length M.rhs
       l = omega (arith, p, c.rows)
@@ -358,7 +358,7 @@ module _ {s : Context} {rows : Rows} where
       unfolding as_written
       alive_now = ap is_one (get_or-set_same n.alive r 1 0 (omega (arith, p, z.alive))) ∙ one_is
 
-    pub as_written_end : {f₂ : Floats} {n₂ : Numbers} → f₂ ≡ sides_put r lo hi f₁ → n₂ ≡ marks_put r (e - a) n₁ → Writes (Written rows) s r f n f₂ n₂ (λ M. as_written M r)
+    pub as_written_end : {f₂ : Floats} {n₂ : Numbers} → f₂ ≡ sides_put r lo hi f₁ → n₂ ≡ marks_put r (e - a) n₁ → WritesRow (Written rows) s r f n f₂ n₂ (λ M. as_written M r)
     as_written_end ef en =
         record {
           does = λ M k c. rw (ef, en, h.floats, h.numbers)

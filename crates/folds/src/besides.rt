@@ -6,7 +6,7 @@ ghost use Rattle.definition.specs.Work as work;
 ghost use Rattle.definition.specs.Folds.{fixed_besides};
 ghost use Rattle.space.specs.Store.{floats_of, numbers_of, HoldsF, HoldsN};
 ghost use Rattle.view.specs.Known.{Spans};
-ghost use Rattle.folds.specs.Stands.{Standing, StandingN, Tells, TellsN};
+ghost use Rattle.folds.specs.Stands.{Standing, StandingN, TellsRow, TellsN};
 ghost use Rattle.folds.specs.Besides.{listed, binaries_of, besides};
 
 use space::{Binaries, Binary, Coeffs, Context, Elo, Folded, Vars};
@@ -66,7 +66,7 @@ pub fn fixed_besides(
 ) -> f64
     requires r_lt_rows { (r < cx.rows) × HoldsF cx floats.now × HoldsN cx numbers.now }
     requires standing { Standing (Spans starts.now) cx r (floats_of cx floats.now) (numbers_of cx numbers.now) }
-    ensures { Tells (Spans starts.now) cx r (floats_of cx floats.entry.now) (numbers_of cx numbers.now) result (λ M w x. fixed_besides w x (binaries_of x.binding)) }
+    ensures { TellsRow (Spans starts.now) cx r (floats_of cx floats.entry.now) (numbers_of cx numbers.now) result (λ M w x. fixed_besides w x (binaries_of x.binding)) }
 {
     let a = starts[r];
     let e = starts[r + 1];

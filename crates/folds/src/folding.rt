@@ -6,7 +6,7 @@ ghost use Rattle.space.specs.Store.{floats_of, numbers_of, HoldsF, HoldsN};
 ghost use Rattle.view.specs.Known.{Spans};
 ghost use Rattle.folds.specs.Folding.{swap_f, swap_n, push_f, push_n, shift_f};
 ghost use Rattle.folds.specs.Stands.{Standing, Turns};
-ghost use Rattle.folds.specs.FoldStep.{fixed_in, Steps};
+ghost use Rattle.folds.specs.FoldStep.{fixed_in, FoldSteps};
 
 use space::{Coeffs, Context, Ehi, Elo, FoldScale, Folded, Hi, Len, Lo, Shift, Vars};
 
@@ -90,7 +90,7 @@ fn fold_step(
     requires r_lt_rows { (r < cx.rows) × HoldsF cx floats.old × HoldsN cx numbers.old }
     requires standing { Standing (Spans starts.now) cx r (floats_of cx floats.old) (numbers_of cx numbers.old) }
     requires at_bound { at < get_or (numbers_of cx numbers.old).len r 0 }
-    ensures { Steps (Spans starts.now) cx r at (floats_of cx floats.old) (numbers_of cx numbers.old) (floats_of cx floats.new) (numbers_of cx numbers.new) result }
+    ensures { FoldSteps (Spans starts.now) cx r at (floats_of cx floats.old) (numbers_of cx numbers.old) (floats_of cx floats.new) (numbers_of cx numbers.new) result }
 {
     let a = starts[r];
     let e = starts[r + 1];

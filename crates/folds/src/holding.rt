@@ -5,7 +5,7 @@ ghost use Rattle.definition.specs.Folds.{fold_fixed};
 ghost use Rattle.space.specs.Store.{floats_of, numbers_of, HoldsF, HoldsN};
 ghost use Rattle.view.specs.Known.{Written};
 ghost use Rattle.folds.specs.Stands.{Standing, Turns};
-ghost use Rattle.folds.specs.Holding.{Holds};
+ghost use Rattle.folds.specs.Holding.{HoldsRow};
 
 use crate::folding::fold_loop;
 use crate::relaxing::relax_binding;
@@ -24,7 +24,7 @@ pub fn hold_rewrites(
 ) -> bool
     requires r_lt_rows { (r < cx.rows) × HoldsF cx floats.old × HoldsN cx numbers.old }
     requires standing { Standing (Written rows) cx r (floats_of cx floats.old) (numbers_of cx numbers.old) }
-    ensures { Holds (Written rows.entry) cx r
+    ensures { HoldsRow (Written rows.entry) cx r
         (floats_of cx floats.old) (numbers_of cx numbers.old) (floats_of cx floats.new) (numbers_of cx numbers.new) result }
 {
     if space::get::<Binaries>(numbers, cx, r) == 0

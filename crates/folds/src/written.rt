@@ -5,7 +5,7 @@ ghost use Rattle.std.specs.Float.{nan};
 ghost use Rattle.definition.specs.Model.{as_written};
 ghost use Rattle.space.specs.Store.{floats_of, numbers_of, HoldsF, HoldsN};
 ghost use Rattle.view.specs.Known.{Written};
-ghost use Rattle.folds.specs.Written.{Given, Writes, Copied, sides_of, sides_put, marks_put};
+ghost use Rattle.folds.specs.Written.{Described, WritesRow, TermsCopied, sides_of, sides_put, marks_put};
 
 use definition::Rows;
 use space::{
@@ -25,7 +25,7 @@ fn write_terms(
 )
     requires a_le_e { (a ≤ e) × (e ≤ cx.terms) × (cx.terms ≤ length rows.index.now) × (cx.terms ≤ length rows.coeff.now) }
     requires holds_f { HoldsF cx floats.old × HoldsN cx numbers.old }
-    ensures { Copied rows.entry.index.now rows.entry.coeff.now a e (floats_of cx floats.old) (numbers_of cx numbers.old) (floats_of cx floats.new) (numbers_of cx numbers.new) }
+    ensures { TermsCopied rows.entry.index.now rows.entry.coeff.now a e (floats_of cx floats.old) (numbers_of cx numbers.old) (floats_of cx floats.new) (numbers_of cx numbers.new) }
 {
     for i in a..e {
         space::put::<Vars>(numbers, cx, i, rows.index[i]);
@@ -75,8 +75,8 @@ fn write_marks(numbers: &mut [usize], cx: Context, r: usize, n: usize)
 // = as_written
 pub fn as_written(rows: Rows, floats: &mut [f64], numbers: &mut [usize], cx: Context, r: usize)
     requires r_lt_rows { (r < cx.rows) × HoldsF cx floats.old × HoldsN cx numbers.old }
-    requires given { Given (Written rows) cx }
-    ensures { Writes (Written rows.entry) cx r
+    requires given { Described (Written rows) cx }
+    ensures { WritesRow (Written rows.entry) cx r
         (floats_of cx floats.old) (numbers_of cx numbers.old) (floats_of cx floats.new) (numbers_of cx numbers.new) (λ M. as_written M r) }
 {
     let a = rows.starts[r];

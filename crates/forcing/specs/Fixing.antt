@@ -1,4 +1,4 @@
--- Fixing a row's variables one after the other: each one's bounds are still those from before any was fixed, since the row has it once.
+-- FixedUpTo a row's variables one after the other: each one's bounds are still those from before any was fixed, since the row has it once.
 use Rattle.std.specs.Prelude.{ℕ, zero, suc, ◌+◌, ◌≤◌, ◌<◌, ◌≡◌, refl, ◌≢◌, Bool, true, false, ◌||◌, List, [], ◌∷◌, ◌++◌, eqb, length, get_or, drop, Float}
 use Rattle.std.proofs.Common.{arith, add-one, ap, sym, ◌∙◌, subst, drop_of_length-le, length-append, drop-cons, get_or-set_other, eq-eqb}
 use Rattle.std.proofs.Math.ListN.{get_or-append}
@@ -19,9 +19,9 @@ use Rattle.view.specs.Bounds.{elo_is, ehi_is}
 use Rattle.bounds.specs.Moves.{inv_fix}
 use Rattle.readers.specs.Reading.{row_of, Alive}
 use Rattle.readers.specs.RowAt.{row_inv}
-use Rattle.rows.specs.Same.{Blind, rows_blind, fix_leaves, fix_elo, fix_ehi}
-use Rattle.rows.specs.Steps.{acts_as}
-use Rattle.rows.specs.Loop.{Turning, turning_start, term_still, len_is}
+use Rattle.bounds.specs.Same.{Blind, rows_blind, fix_leaves, fix_elo, fix_ehi}
+use Rattle.view.specs.Renamed.{acts_as}
+use Rattle.bounds.specs.Loop.{Turning, turning_start, term_still, len_is}
 
 -- ---- fix_term
 pub fix_corner : {P : Model → Type 0} {s : Context} {f f' : Floats} {n n' : Numbers} (minCorner : Bool) (v : ℕ) (a : Float) {lo hi x : Float}
@@ -54,16 +54,16 @@ apart (distinct∷ {t} {ts} e d) (suc i) zero p q = absurd (omega arith)
 apart (distinct∷ {t} {ts} e d) (suc i) (suc j) p q = apart d i j (omega arith) (omega arith)
 
 -- ---- the walk: the terms from i on are left, and their bounds are those of w
-pub record Fixing (r : ℕ) (minCorner : Bool) (i : ℕ) (M : Model) (w u : Work) : Type 0 where
+pub record FixedUpTo (r : ℕ) (minCorner : Bool) (i : ℕ) (M : Model) (w u : Work) : Type 0 where
   pub rows : u.rows ≡ w.rows
   pub los : (j : ℕ) → i ≤ j → j < length (row_of w r).terms → at u.elo (get_or (row_of w r).terms j no_term).var ≡ at w.elo (get_or (row_of w r).terms j no_term).var
   pub his : (j : ℕ) → i ≤ j → j < length (row_of w r).terms → at u.ehi (get_or (row_of w r).terms j no_term).var ≡ at w.ehi (get_or (row_of w r).terms j no_term).var
   pub rest : fix_all M minCorner w (drop i (row_of w r).terms) u ≡ fix_all M minCorner w (row_of w r).terms w
 
-pub fixing_rows : {r : ℕ} {minCorner : Bool} {i : ℕ} (M : Model) (w u : Work) → Fixing r minCorner i M w u → u.rows ≡ w.rows
+pub fixing_rows : {r : ℕ} {minCorner : Bool} {i : ℕ} (M : Model) (w u : Work) → FixedUpTo r minCorner i M w u → u.rows ≡ w.rows
 fixing_rows M w u k = k.rows
 
-pub fixing_start : {P : Model → Type 0} {s : Context} {f : Floats} {n : Numbers} {r : ℕ} {minCorner : Bool} → Turning P s f n f n (Fixing r minCorner 0)
+pub fixing_start : {P : Model → Type 0} {s : Context} {f : Floats} {n : Numbers} {r : ℕ} {minCorner : Bool} → Turning P s f n f n (FixedUpTo r minCorner 0)
 fixing_start = turning_start (λ M w. record { rows = refl; los = λ j p q. refl; his = λ j p q. refl; rest = refl })
 
 all_cons : (M : Model) (minCorner : Bool) (w : Work) (t : Term) (ts : List Term) (u : Work) → fix_all M minCorner w (t ∷ ts) u ≡ fix_all M minCorner w ts (fix M t.var (corner minCorner w t) u)
@@ -78,7 +78,7 @@ corner_same : (minCorner : Bool) (w u : Work) (v : ℕ) (y : Float) → at u.elo
 corner_same minCorner w u v y e₁ e₂ = sym (corner_of_lem minCorner u (term v y)) ∙ cc (e₁, e₂) ∙ corner_of_lem minCorner w (term v y)
 
 -- one more is fixed
-module _ (M : Model) (r : ℕ) (minCorner : Bool) (i v : ℕ) (y : Float) (w u : Work) (K : Fixing r minCorner i M w u)
+module _ (M : Model) (r : ℕ) (minCorner : Bool) (i v : ℕ) (y : Float) (w u : Work) (K : FixedUpTo r minCorner i M w u)
     (d : Distinct ((row_of w r).terms ++ (row_of w r).folded)) (m : i < length (row_of w r).terms) (e : get_or (row_of w r).terms i no_term ≡ term v y) where
   abbrev ts : List Term
   ts = (row_of w r).terms
@@ -100,7 +100,7 @@ module _ (M : Model) (r : ℕ) (minCorner : Bool) (i v : ℕ) (y : Float) (w u :
       corner_same minCorner w u v y (subst (λ (q : ℕ). at u.elo q ≡ at w.elo q) v_is (K.los i (omega arith) m))
       (subst (λ (q : ℕ). at u.ehi q ≡ at w.ehi q) v_is (K.his i (omega arith) m))
 
-  fixed_one_lem : Fixing r minCorner (i + 1) M w (fix M v x u)
+  fixed_one_lem : FixedUpTo r minCorner (i + 1) M w (fix M v x u)
   fixed_one_lem =
       record {
         rows = fix_leaves rows_blind M v x u ∙ K.rows;
@@ -117,9 +117,9 @@ module _ (M : Model) (r : ℕ) (minCorner : Bool) (i v : ℕ) (y : Float) (w u :
       }
 
 module _ {P : Model → Type 0} {s : Context} {f₀ f : Floats} {n₀ n : Numbers} {ss : List ℕ} {r : ℕ} {minCorner : Bool} {i : ℕ} (q : (M : Model) → P M → Spans ss M)
-    (p : r < s.rows) (a : Alive n₀ r) (T : Turning P s f₀ n₀ f n (Fixing r minCorner i)) where
+    (p : r < s.rows) (a : Alive n₀ r) (T : Turning P s f₀ n₀ f n (FixedUpTo r minCorner i)) where
   pub fixing_turn : {f' : Floats} {n' : Numbers} {l v : ℕ} {y : Float} → l ≡ get_or n₀.len r 0 → i < l → v ≡ get_or n.vars (get_or ss r 0 + i) 0 → y ≡ get_or f.coeffs (get_or ss r 0 + i) nan
-      → Acts P s f n f' n' (λ M u. fix M v (corner minCorner u (term v y)) u) → Turning P s f₀ n₀ f' n' (Fixing r minCorner (i + 1))
+      → Acts P s f n f' n' (λ M u. fix M v (corner minCorner u (term v y)) u) → Turning P s f₀ n₀ f' n' (FixedUpTo r minCorner (i + 1))
   fixing_turn {v = v} {y} el il ev ey t =
       record {
         each = λ M o k w b c h j.

@@ -29,7 +29,7 @@ use Rattle.view.specs.Bounds.{elo_is, ehi_is}
 use Rattle.readers.specs.Reading.{row_of, Alive, ReadsF, ReadsM, Domains}
 use Rattle.readers.specs.Limits.{ReadsLimits}
 use Rattle.readers.specs.RowAt.{row_at, row_ready, live_place}
-use Rattle.rows.specs.Knowing.{Looks, looks_spans, looks_domains, of_limits}
+use Rattle.readers.specs.Knowing.{Looks, looks_spans, looks_domains, of_limits}
 
 -- ---- forced_term
 pub forced_is : {lists : Lists} {s : Context} {f : Floats} (r v : ℕ) (a sliver mag : Float) {x : Limits} {k : ℕ} {int z : Bool} {lo hi : Float}
@@ -73,16 +73,16 @@ module _ (M : Model) (r : ℕ) (sliver mag : Float) (w : Work) where
 abbrev live_term : List ℕ → Floats → Numbers → ℕ → ℕ → Term
 live_term ss f n r i = term (get_or n.vars (get_or ss r 0 + i) 0) (get_or f.coeffs (get_or ss r 0 + i) nan)
 
-pub record Told (lists : Lists) (s : Context) (f : Floats) (n : Numbers) (r : ℕ) (sliver mag : Float) (z : Bool) (i : ℕ) : Type 0 where
+pub record TermTold (lists : Lists) (s : Context) (f : Floats) (n : Numbers) (r : ℕ) (sliver mag : Float) (z : Bool) (i : ℕ) : Type 0 where
   pub told : ReadsF (Looks lists) s f z (λ M w. forced_term M r sliver mag w (live_term lists.rows.starts.now f n r i))
 
 pub told_of : {lists : Lists} {s : Context} {f : Floats} {n : Numbers} {r i v : ℕ} {sliver mag y : Float} {z b : Bool} → ReadsF (Looks lists) s f b (λ M w. forced_term M r sliver mag w (term v y))
-    → z ≡ b → v ≡ get_or n.vars (get_or lists.rows.starts.now r 0 + i) 0 → y ≡ get_or f.coeffs (get_or lists.rows.starts.now r 0 + i) nan → Told lists s f n r sliver mag z i
+    → z ≡ b → v ≡ get_or n.vars (get_or lists.rows.starts.now r 0 + i) 0 → y ≡ get_or f.coeffs (get_or lists.rows.starts.now r 0 + i) nan → TermTold lists s f n r sliver mag z i
 told_of t ez ev ey = record { told = record { reads = λ M n o k w p c h i. cc (ez, ev, ey, t.reads M n o k w p c h i) } }
 
 module _ {lists : Lists} {s : Context} {f : Floats} {n : Numbers} {r l : ℕ} (p : r < s.rows) (a : Alive n r) (el : l ≡ get_or n.len r 0) (sliver mag : Float) where
   module _ {M : Model} {o : List ℕ} {k : ℕ} {w : Work} (q : Looks lists M) (c : Call M s) (h : Shows M f n o w) (j : Inv M k w) where
-    asked_of : {z : Bool} (i : ℕ) → i < length (row_of w r).terms → Told lists s f n r sliver mag z i → forced_term M r sliver mag w (get_or (row_of w r).terms i no_term) ≡ z
+    asked_of : {z : Bool} (i : ℕ) → i < length (row_of w r).terms → TermTold lists s f n r sliver mag z i → forced_term M r sliver mag w (get_or (row_of w r).terms i no_term) ≡ z
     asked_of i m t =
         let u = (row_at c h p a j (looks_spans M q)).terms i m in
         let ev = sym u.var in
@@ -93,11 +93,11 @@ module _ {lists : Lists} {s : Context} {f : Floats} {n : Numbers} {r l : ℕ} (p
     len_of : length (row_of w r).terms ≡ l
     len_of = omega (arith, el, (row_at c h p a j (looks_spans M q)).len)
 
-  at_range : {z : Bool} (i : ℕ) → i < l → Told lists s f n r sliver mag z (get_or (range_with_len 0 l) i 0) → Told lists s f n r sliver mag z i
-  at_range {z} i m t = let e : get_or (range_with_len 0 l) i 0 ≡ i = omega (arith, get_or-range_with_len 0 l i 0 m) in subst (Told lists s f n r sliver mag z) e t
+  at_range : {z : Bool} (i : ℕ) → i < l → TermTold lists s f n r sliver mag z (get_or (range_with_len 0 l) i 0) → TermTold lists s f n r sliver mag z i
+  at_range {z} i m t = let e : get_or (range_with_len 0 l) i 0 ≡ i = omega (arith, get_or-range_with_len 0 l i 0 m) in subst (TermTold lists s f n r sliver mag z) e t
 
-  pub all_forced_is : (z : Bool) → MatchBool z (AllWithin (Told lists s f n r sliver mag true) (range_with_len 0 l) 0 (length (range_with_len 0 l)))
-      ((i : ℕ) × (i < length (range_with_len 0 l)) × HoldsAt (Told lists s f n r sliver mag false) (range_with_len 0 l) i)
+  pub all_forced_is : (z : Bool) → MatchBool z (AllWithin (TermTold lists s f n r sliver mag true) (range_with_len 0 l) 0 (length (range_with_len 0 l)))
+      ((i : ℕ) × (i < length (range_with_len 0 l)) × HoldsAt (TermTold lists s f n r sliver mag false) (range_with_len 0 l) i)
       → Reads (Looks lists) s f n z (λ M w. all_forced M r sliver mag w (row_of w r).terms)
   all_forced_is true e =
       record {

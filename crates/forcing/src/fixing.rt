@@ -8,7 +8,7 @@ ghost use Rattle.space.specs.Store.{floats_of, numbers_of, HoldsF, HoldsN};
 ghost use Rattle.view.specs.Acts.{Ready, Acts};
 ghost use Rattle.view.specs.Adjacency.{Adj};
 ghost use Rattle.readers.specs.Reading.{row_of, Alive};
-ghost use Rattle.rows.specs.Knowing.{Marks};
+ghost use Rattle.readers.specs.Knowing.{Marks};
 
 use space::{Coeffs, Context, Ehi, Elo, Len, Vars, get};
 use view::Lists;

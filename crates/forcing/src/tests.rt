@@ -7,7 +7,7 @@ ghost use Rattle.definition.specs.Forcing as definition;
 ghost use Rattle.space.specs.Store.{floats_of, numbers_of, HoldsF, HoldsN};
 ghost use Rattle.view.specs.Acts.{Ready, Reads};
 ghost use Rattle.readers.specs.Reading.{row_of, Alive, ReadsF};
-ghost use Rattle.rows.specs.Knowing.{Looks, LimitsOf};
+ghost use Rattle.readers.specs.Knowing.{Looks, LimitsOf};
 
 use definition::Activity;
 use formulas::{Limits, Sliver};
@@ -105,7 +105,7 @@ pub fn forces(
     ensures { Reads (Looks lists.entry) cx (floats_of cx floats.now) (numbers_of cx numbers.now) result
         (λ M u. choose minCorner (definition.forces_min M r (row_of u r) act e u) (definition.forces_max M r (row_of u r) act e u)) }
 {
-    let x = rows::limits(lists.rows.starts, floats, cx, r);
+    let x = readers::limits(lists.rows.starts, floats, cx, r);
     if minCorner {
         if x.near_min(act) && e.ninf_l == 0 {
             let sliver = Sliver {

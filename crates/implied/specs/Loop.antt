@@ -20,9 +20,9 @@ use Rattle.view.specs.Known.{Spans}
 use Rattle.view.specs.Bounds.{went_by}
 use Rattle.readers.specs.Reading.{row_of, Alive}
 use Rattle.readers.specs.Limits.{ReadsLimits}
-use Rattle.rows.specs.Same.{Blind, rows_blind, Leaves, same, same_next, same_then}
-use Rattle.rows.specs.Steps.{stopped_then, inv_next, inv_then}
-use Rattle.rows.specs.Loop.{Turning, turning_start, term_still, len_is}
+use Rattle.bounds.specs.Same.{Blind, rows_blind, Leaves, same, same_next, same_then}
+use Rattle.view.specs.Renamed.{stopped_then, inv_next, inv_then}
+use Rattle.bounds.specs.Loop.{Turning, turning_start, term_still, len_is}
 use Rattle.implied.specs.Sides.{term_has, inv_term, leaves_term}
 
 bounds_cons : (M : Model) (r : ℕ) (row : Row) (act : Activity) (t : Term) (ts : List Term) (w : Work) → implied_bounds M r row act (t ∷ ts) w

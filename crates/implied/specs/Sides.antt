@@ -32,9 +32,9 @@ use Rattle.view.specs.Known.{Bounding, Spans}
 use Rattle.view.specs.Bounds.{wlo_is, whi_is, went_by}
 use Rattle.bounds.specs.Moves.{tightens, inv_upper, inv_lower}
 use Rattle.bounds.specs.Stays.{Stays}
-use Rattle.rows.specs.Knowing.{Moves, moves_bounding, moves_spans, of_call}
-use Rattle.rows.specs.Same.{Blind, Leaves, same, same_then, upper_leaves, lower_leaves}
-use Rattle.rows.specs.Steps.{tries_as, inv_then}
+use Rattle.readers.specs.Knowing.{BoundingRows, moves_bounding, moves_spans, of_call}
+use Rattle.bounds.specs.Same.{Blind, Leaves, same, same_then, upper_leaves, lower_leaves}
+use Rattle.view.specs.Renamed.{tries_as, inv_then}
 
 -- `implied`, at a side
 unfoldable pub from_rest : Model → Bool → ℕ → Row → Side → Float → Term → Option Float → Work → Step
@@ -60,7 +60,7 @@ unfolding from_rest
 rest_some M upper r row side c t rest w = implied_of M upper r row side c t rest w
 
 -- ---- a bound that leaves its variable as it is
-pub record Still (domain : List ℕ) (s : Context) (f : Floats) (side : Side) (v : ℕ) (q : Float) (above : Bool) : Type 0 where
+pub record SideStill (domain : List ℕ) (s : Context) (f : Floats) (side : Side) (v : ℕ) (q : Float) (above : Bool) : Type 0 where
   pub relaxes : Relaxes s.feas side.abs side.slack
   pub stays : Stays domain s f v q above
 
@@ -168,7 +168,7 @@ module _ (upper : Bool) (r : ℕ) (row : Row) (side : Side) (c : Float) (t : Ter
 -- ---- a bound that leaves its variable as it is
 module _ {lists : Lists} {s : Context} {f : Floats} {n : Numbers} (upper : Bool) (r : ℕ) (x : Limits) (side : Side) (c : Float) (v : ℕ) (a rest : Float)
     {q : Float} {b : Bool} (eq : q ≡ quotient_of side.bound rest a) (eb : b ≡ bounds_above upper a) where
-  rest_still : Held a → Still lists.domain.now s f side v q b → Tries (Moves lists) s f n f n (Ok tt) (λ M. from_rest M upper r (bare x) side c (term v a) (some rest))
+  rest_still : Held a → SideStill lists.domain.now s f side v q b → Tries (BoundingRows lists) s f n f n (Ok tt) (λ M. from_rest M upper r (bare x) side c (term v a) (some rest))
   rest_still ha t =
       record {
         does = λ M o k w p d h i.
@@ -191,7 +191,7 @@ of_these x ef et c e =
 module _ {lists : Lists} {s : Context} {f f' : Floats} {n n' : Numbers} {z : Outcome} (upper : Bool) (r : ℕ) (x : Limits) (side : Side) (c : Float) (v : ℕ) (a rest : Float)
     {q relax : Float} {b : Bool} (eq : q ≡ quotient_of side.bound rest a) (ef : x.feas ≡ s.feas) (et : x.terms ≡ get_or lists.rows.starts.now (r + 1) 0 - get_or lists.rows.starts.now r 0)
     (er : Says x.feas x.terms relax (λ M r'. relax_of M r' (bare x) side c rest a)) (eb : b ≡ bounds_above upper a) where
-  pub rest_tightens : Tries (Bounding lists) s f n f' n' z (tightens v q relax b) → Tries (Moves lists) s f n f' n' z (λ M. from_rest M upper r (bare x) side c (term v a) (some rest))
+  pub rest_tightens : Tries (Bounding lists) s f n f' n' z (tightens v q relax b) → Tries (BoundingRows lists) s f n f' n' z (λ M. from_rest M upper r (bare x) side c (term v a) (some rest))
   rest_tightens t =
       tries_as
       (λ M o k w p d h i.
@@ -204,18 +204,18 @@ module _ {lists : Lists} {s : Context} {f f' : Floats} {n n' : Numbers} {z : Out
 
 -- ---- quiet: a half that changes nothing, whatever row it is of
 pub record Quiet (ds : List ℕ) (s : Context) (f : Floats) (side : Side) (upper : Bool) (c : Float) (v : ℕ) (a : Float) : Type 0 where
-  pub quiet : (lists : Lists) (n : Numbers) (r : ℕ) (x : Limits) → lists.domain.now ≡ ds → Tries (Moves lists) s f n f n (Ok tt) (λ M. side_step M upper r (bare x) side c (term v a))
+  pub quiet : (lists : Lists) (n : Numbers) (r : ℕ) (x : Limits) → lists.domain.now ≡ ds → Tries (BoundingRows lists) s f n f n (Ok tt) (λ M. side_step M upper r (bare x) side c (term v a))
 
 module _ {ds : List ℕ} {s : Context} {f : Floats} (upper : Bool) (side : Side) (c : Float) (v : ℕ) (a : Float) {z : std.Option Float} (g : rest_is z ≡ rest_at side c) where
   pub quiet_none : z ≡ std.None → Quiet ds s f side upper c v a
   quiet_none u = record { quiet = λ lists n r x d. half_none upper r (bare x) side c (term v a) g u }
 
-  pub quiet_still : {rest q : Float} {b : Bool} → z ≡ std.Some rest → q ≡ quotient_of side.bound rest a → b ≡ bounds_above upper a → Held a → Still ds s f side v q b → Quiet ds s f side upper c v a
+  pub quiet_still : {rest q : Float} {b : Bool} → z ≡ std.Some rest → q ≡ quotient_of side.bound rest a → b ≡ bounds_above upper a → Held a → SideStill ds s f side v q b → Quiet ds s f side upper c v a
   quiet_still {rest} {q} {b} u eq eb ha t =
       record {
         quiet = λ lists n r x d.
             half_some upper r (bare x) side c (term v a) g u
-            (rest_still {lists = lists} upper r x side c v a rest eq eb ha (subst (λ (l : List ℕ). Still l s f side v q b) (sym d) t));
+            (rest_still {lists = lists} upper r x side c v a rest eq eb ha (subst (λ (l : List ℕ). SideStill l s f side v q b) (sym d) t));
       }
 
 -- ---- implied_term: its halves, of the parts that its variable's bounds give
@@ -244,5 +244,5 @@ module _ {f : Floats} (r : ℕ) (x : Limits) (act : Activity) (v : ℕ) (a : Flo
     term_stop t = tries_as (λ M o k w p d y i. term_is y) (tries_stop (λ M. side_step M false r (bare x) low cmax (term v a)) t)
 
   pub term_quiet : {lists : Lists} {s : Context} {n : Numbers} → Quiet lists.domain.now s f high true cmin v a → Quiet lists.domain.now s f low false cmax v a
-      → Tries (Moves lists) s f n f n (Ok tt) (λ M. implied_term M r (bare x) act (term v a))
+      → Tries (BoundingRows lists) s f n f n (Ok tt) (λ M. implied_term M r (bare x) act (term v a))
   term_quiet {lists} {s} {n} p q = term_then (p.quiet lists n r x refl) (q.quiet lists n r x refl)

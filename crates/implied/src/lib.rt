@@ -15,7 +15,7 @@ ghost use Rattle.formulas.specs.Bare.{bare};
 ghost use Rattle.formulas.specs.Implied.{rest_is};
 ghost use Rattle.view.specs.Acts.{Ready, Tries};
 ghost use Rattle.readers.specs.Reading.{row_of, Alive};
-ghost use Rattle.rows.specs.Knowing.{Moves};
+ghost use Rattle.readers.specs.Knowing.{BoundingRows};
 ghost use Rattle.implied.specs.Sides.{Quiet, rest_at, side_step};
 
 use definition::{Activity, Infeasible};
@@ -75,9 +75,9 @@ impl Half {
         x: Limits,
     ) -> Result<(), Infeasible>
         requires v_lt_vars { (self.v < cx.vars) × HoldsF cx floats.old × HoldsN cx numbers.old }
-        requires ready { Ready (Moves lists) cx (floats_of cx floats.old) (numbers_of cx numbers.old) }
+        requires ready { Ready (BoundingRows lists) cx (floats_of cx floats.old) (numbers_of cx numbers.old) }
         requires limits { (x.feas ≡ cx.feas) × (x.terms ≡ get_or lists.rows.starts.now (r + 1) 0 - get_or lists.rows.starts.now r 0) }
-        ensures { Tries (Moves lists.entry) cx (floats_of cx floats.old) (numbers_of cx numbers.old) (floats_of cx floats.new) (numbers_of cx numbers.new)
+        ensures { Tries (BoundingRows lists.entry) cx (floats_of cx floats.old) (numbers_of cx numbers.old) (floats_of cx floats.new) (numbers_of cx numbers.new)
             result (λ M. side_step M self.upper r (bare x) self.side self.c (term self.v self.a)) }
     {
         match self.rest() {
@@ -107,9 +107,9 @@ fn implied_term(
     a: f64,
 ) -> Result<(), Infeasible>
     requires v_lt_vars { (v < cx.vars) × HoldsF cx floats.old × HoldsN cx numbers.old }
-    requires ready { Ready (Moves lists) cx (floats_of cx floats.old) (numbers_of cx numbers.old) }
+    requires ready { Ready (BoundingRows lists) cx (floats_of cx floats.old) (numbers_of cx numbers.old) }
     requires limits { (x.feas ≡ cx.feas) × (x.terms ≡ get_or lists.rows.starts.now (r + 1) 0 - get_or lists.rows.starts.now r 0) }
-    ensures { Tries (Moves lists.entry) cx (floats_of cx floats.old) (numbers_of cx numbers.old)
+    ensures { Tries (BoundingRows lists.entry) cx (floats_of cx floats.old) (numbers_of cx numbers.old)
         (floats_of cx floats.new) (numbers_of cx numbers.new) result (λ M. definition.implied_term M r (bare x) act (term v a)) }
 {
     let lo = get::<Wlo>(floats, cx, v);
@@ -145,11 +145,11 @@ pub fn implied_bounds(
     act: Activity,
 ) -> Result<(), Infeasible>
     requires r_lt_rows { (r < cx.rows) × HoldsF cx floats.old × HoldsN cx numbers.old × Alive (numbers_of cx numbers.old) r }
-    requires ready { Ready (Moves lists) cx (floats_of cx floats.old) (numbers_of cx numbers.old) }
-    ensures { Tries (Moves lists.entry) cx (floats_of cx floats.entry.now) (numbers_of cx numbers.old)
+    requires ready { Ready (BoundingRows lists) cx (floats_of cx floats.old) (numbers_of cx numbers.old) }
+    ensures { Tries (BoundingRows lists.entry) cx (floats_of cx floats.entry.now) (numbers_of cx numbers.old)
         (floats_of cx floats.exit.now) (numbers_of cx numbers.new) result (λ M w. definition.implied_bounds M r (row_of w r) act (row_of w r).terms w) }
 {
-    let x = rows::limits(lists.rows.starts, floats, cx, r);
+    let x = readers::limits(lists.rows.starts, floats, cx, r);
     let a = lists.rows.starts[r];
     for i in 0..get::<Len>(numbers, cx, r) {
         let v = get::<Vars>(numbers, cx, a + i);

@@ -13,7 +13,7 @@ use Rattle.model_file.specs.declared.Settings.{Settings}
 use Rattle.model_file.specs.Format.{got, Parser, byte, number, float, optional, count, code, rules, settings, values, variable, side, head}
 use Rattle.model_file.specs.Format.{term, many, row, Row, rows, ends, all_terms, Lists, lists, end, whole, file, decoded, decode}
 use Rattle.model_file.specs.Places.{then_got, refuse_no, optional_present}
-use Rattle.model_file.specs.Encode.{bytes_of, float_bytes, each, variable_bytes, term_bytes, row_bytes, variables_of, terms_of, rows_of, encode, Every, Held, Code, Short, Rising, Starts, WellFormed}
+use Rattle.model_file.specs.Encode.{bytes_of, float_bytes, each, variable_bytes, term_bytes, row_bytes, variables_of, terms_of, rows_of, encode, Every, Binary64, Code, Short, Rising, Starts, WellFormed}
 use Rattle.model_file.specs.RoundTrip.{RowOk, RowsAre, RowsOk, SheetOk, TermOk, TermsAre, VariableOk, VariablesAre}
 
 -- ---- numbers and floats
@@ -24,11 +24,11 @@ number_back (suc n) v s h =
     let z : v % 256 + 256 * (v / 256) ≡ v = omega arith in
     then_got _ refl ∙ then_got _ (number_back n (v / 256) s (omega arith)) ∙ ap (λ (k : ℕ). got k s) z
 
-pub float_back : (x : Float) (s : List ℕ) → Held x → float (float_bytes x ++ s) ≡ got x s
+pub float_back : (x : Float) (s : List ℕ) → Binary64 x → float (float_bytes x ++ s) ≡ got x s
 unfolding float float_bytes
 float_back x s h = then_got _ (number_back 8 (to_bits binary64 x) s (to_bits-lt binary64 x h)) ∙ ap (λ (y : Float). got y s) (of_bits-to_bits binary64 x h)
 
-pub optional_back : {b : Bool} (d x : Float) (s : List ℕ) → b ≡ true → Held x → optional b d (float_bytes x ++ s) ≡ got x s
+pub optional_back : {b : Bool} (d x : Float) (s : List ℕ) → b ≡ true → Binary64 x → optional b d (float_bytes x ++ s) ≡ got x s
 optional_back d x s e h = optional_present d (float_bytes x ++ s) e ∙ float_back x s h
 
 pub byte_back : (b : ℕ) (s : List ℕ) → byte (b ∷ s) ≡ got b s
@@ -76,7 +76,7 @@ unfolding row_bytes
 row_bytes_lem r s = ap (λ (l : List ℕ). (4 + r.head.cmp) ∷ l) (append_assoc (float_bytes r.head.rhs) (bytes_of 2 r.head.count ++ each term_bytes r.terms)
     s ∙ ap (λ (l : List ℕ). float_bytes r.head.rhs ++ l) (append_assoc (bytes_of 2 r.head.count) (each term_bytes r.terms) s))
 
-pub head_back : (t : ℕ) (h : RowHead) (s : List ℕ) → Code h.cmp → Held h.rhs → t + h.count ≤ 512 → head t ((4 + h.cmp) ∷ (float_bytes h.rhs ++ (bytes_of 2 h.count ++ s))) ≡ got h s
+pub head_back : (t : ℕ) (h : RowHead) (s : List ℕ) → Code h.cmp → Binary64 h.rhs → t + h.count ≤ 512 → head t ((4 + h.cmp) ∷ (float_bytes h.rhs ++ (bytes_of 2 h.count ++ s))) ≡ got h s
 unfolding head side
 head_back t h s q b u =
     let m = 4 + h.cmp in
@@ -113,7 +113,7 @@ pub code_back : (n : ℕ) (s : List ℕ) → Code n → code (n ∷ s) ≡ got n
 unfolding code
 code_back n s h = then_got _ (byte_back n s) ∙ then_got _ (refuse_no 12 s (le-ltb 2 n (omega arith)))
 
-pub settings_back : (h : Settings) (s : List ℕ) → h.vars ≤ 128 → h.rows ≤ 128 → Held h.feasibility → Held h.int_tol → Code h.mode
+pub settings_back : (h : Settings) (s : List ℕ) → h.vars ≤ 128 → h.rows ≤ 128 → Binary64 h.feasibility → Binary64 h.int_tol → Code h.mode
     → settings (bytes_of 2 h.vars ++ (bytes_of 2 h.rows ++ (float_bytes h.feasibility ++ (float_bytes h.int_tol ++ (h.mode ∷ s))))) ≡ got h s
 unfolding settings rules
 settings_back h s v r f i m =
@@ -141,8 +141,8 @@ pub none : {A : Type 0} (l : List A) → length l ≡ 0 → [] ≡ l
 none [] e = refl
 none (x ∷ l) e = absurd (omega arith)
 
-pub variables_are : (os ls us : List Float) (ds : List ℕ) → length ls ≡ length os → length us ≡ length os → length ds ≡ length os → Every Held os → Every Held ls
-    → Every Held us → Every Code ds → VariablesAre os ls us ds (variables_of os ls us ds)
+pub variables_are : (os ls us : List Float) (ds : List ℕ) → length ls ≡ length os → length us ≡ length os → length ds ≡ length os → Every Binary64 os → Every Binary64 ls
+    → Every Binary64 us → Every Code ds → VariablesAre os ls us ds (variables_of os ls us ds)
 unfolding variables_of
 variables_are [] ls us ds a b c o l u d = record { objective = refl; lower = none ls a; upper = none us b; domain = none ds c; ok = tt }
 variables_are (x ∷ os) [] us ds a b c o l u d = absurd (omega arith)
@@ -158,7 +158,7 @@ variables_are (x ∷ os) (y ∷ ls) (z ∷ us) (w ∷ ds) a b c o l u d =
       ok = (record { objective = o.0; lower = l.0; upper = u.0; domain = d.0 }, k.ok);
     }
 
-pub terms_are : (is : List ℕ) (cs : List Float) → length cs ≡ length is → Every Short is → Every Held cs → TermsAre is cs (terms_of is cs)
+pub terms_are : (is : List ℕ) (cs : List Float) → length cs ≡ length is → Every Short is → Every Binary64 cs → TermsAre is cs (terms_of is cs)
 unfolding terms_of
 terms_are [] cs a i c = record { index = refl; coeff = none cs a; count = refl; ok = tt }
 terms_are (x ∷ is) [] a i c = absurd (omega arith)
@@ -186,7 +186,7 @@ rising_le t [] n r = omega arith
 rising_le t (e ∷ es) n r = let z = rising_le e es n r.1 in omega (arith, z, r.0)
 
 pub rows_are_lem : (t n : ℕ) (es : List ℕ) (ts : List Term) (qs : List ℕ) (bs : List Float) → n ≤ 512 → Rising t es n → t + length ts ≡ n → length qs ≡ length es
-    → length bs ≡ length es → Every TermOk ts → Every Code qs → Every Held bs → RowsAre t es ts qs bs (rows_of t es ts qs bs)
+    → length bs ≡ length es → Every TermOk ts → Every Code qs → Every Binary64 bs → RowsAre t es ts qs bs (rows_of t es ts qs bs)
 unfolding rows_of ends all_terms
 rows_are_lem t n [] ts qs bs h r e a b x q s = record { starts = refl; terms = none ts (omega arith); cmp = none qs a; rhs = none bs b; ok = tt }
 rows_are_lem t n (d ∷ es) ts [] bs h r e a b x q s = absurd (omega arith)

@@ -62,8 +62,8 @@ Every P [] = Unit {0}
 Every P (x ∷ xs) = P x × Every P xs
 
 -- a float of the format
-abbrev pub Held : Float → Type 0
-Held x = T (fits binary64 x)
+abbrev pub Binary64 : Float → Type 0
+Binary64 x = T (fits binary64 x)
 
 -- a domain, a comparison or a mode
 abbrev pub Code : ℕ → Type 0
@@ -92,13 +92,13 @@ pub record WellFormed (f : Lists) : Type 0 where
   pub rising : Starts f.starts (length f.index)
   pub terms : length f.index ≤ 512
   pub coeffs : length f.coeff ≡ length f.index
-  pub objective_held : Every Held f.objective
-  pub lower_held : Every Held f.lower
-  pub upper_held : Every Held f.upper
-  pub coeff_held : Every Held f.coeff
-  pub rhs_held : Every Held f.rhs
-  pub feasibility_held : Held f.feasibility
-  pub int_tol_held : Held f.int_tol
+  pub objective_held : Every Binary64 f.objective
+  pub lower_held : Every Binary64 f.lower
+  pub upper_held : Every Binary64 f.upper
+  pub coeff_held : Every Binary64 f.coeff
+  pub rhs_held : Every Binary64 f.rhs
+  pub feasibility_held : Binary64 f.feasibility
+  pub int_tol_held : Binary64 f.int_tol
   pub index_short : Every Short f.index
   pub domain_code : Every Code f.domain
   pub cmp_code : Every Code f.cmp

@@ -128,7 +128,7 @@ abbrev pub Roomy : Got ℕ → Sizes → Type 0
 Roomy g z = Within g z.index × Within g z.coeff
 
 -- ---- what the loops promise: the place after, as the pass that checks gives it, and the slices
-pub record Filled {A C : Type 0} (p : Parser A) (put : ℕ → A → C → C) (n : ℕ) (s : List ℕ) (i : ℕ) (z : Result (Unit {0}) FileRefusal) (r : List ℕ) (c k : C) : Type 0 where
+pub record ListFilled {A C : Type 0} (p : Parser A) (put : ℕ → A → C → C) (n : ℕ) (s : List ℕ) (i : ℕ) (z : Result (Unit {0}) FileRefusal) (r : List ℕ) (c k : C) : Type 0 where
   pub place : skipped (many p n s) ≡ answered z r
   pub columns : k ≡ fill p put n s i c
 
@@ -199,11 +199,11 @@ module _ (t : ℕ) (s : List ℕ) where
       [ refused m ↦ refl | got h a ↦ sizes_fill term put_term sizes_term h.count a t (put_head r (t + h.count) h c) ∙ sizes_head r (t + h.count) h c ]
 
 -- the terms of a row: those from t up to t + n
-pub counted : (t n : ℕ) {s r : List ℕ} {z : Result (Unit {0}) FileRefusal} {c k : Slices} → Filled term put_term (t + n - t) s t z r c k → Filled term put_term n s t z r c k
+pub counted : (t n : ℕ) {s r : List ℕ} {z : Result (Unit {0}) FileRefusal} {c k : Slices} → ListFilled term put_term (t + n - t) s t z r c k → ListFilled term put_term n s t z r c k
 counted t n v = let z : t + n - t ≡ n = omega arith in rw z at v
 
 -- all of them
-pub from_zero : {A C : Type 0} (p : Parser A) (put : ℕ → A → C → C) (n : ℕ) {s r : List ℕ} {i : ℕ} {z : Result (Unit {0}) FileRefusal} {c k : C} → Filled p put (n - 0) s i z r c k → Filled p put n s i z r c k
+pub from_zero : {A C : Type 0} (p : Parser A) (put : ℕ → A → C → C) (n : ℕ) {s r : List ℕ} {i : ℕ} {z : Result (Unit {0}) FileRefusal} {c k : C} → ListFilled p put (n - 0) s i z r c k → ListFilled p put n s i z r c k
 from_zero p put n v = let z : n - 0 ≡ n = omega arith in rw z at v
 
 -- ---- the rows

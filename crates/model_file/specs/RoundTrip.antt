@@ -4,24 +4,24 @@ use Rattle.model_file.specs.declared.Variable.{Variable}
 use Rattle.model_file.specs.declared.Term.{Term}
 use Rattle.model_file.specs.declared.Settings.{Settings}
 use Rattle.model_file.specs.Format.{Row, ends, all_terms}
-use Rattle.model_file.specs.Encode.{Every, Held, Code, Short}
+use Rattle.model_file.specs.Encode.{Every, Binary64, Code, Short}
 
 -- ---- variables
 pub record VariableOk (v : Variable) : Type 0 where
-  pub objective : Held v.objective
-  pub lower : Held v.lower
-  pub upper : Held v.upper
+  pub objective : Binary64 v.objective
+  pub lower : Binary64 v.lower
+  pub upper : Binary64 v.upper
   pub domain : Code v.domain
 
 -- ---- terms and rows
 pub record TermOk (x : Term) : Type 0 where
   pub index : Short x.index
-  pub coeff : Held x.coeff
+  pub coeff : Binary64 x.coeff
 
 -- a row after t terms
 pub record RowOk (t : ℕ) (r : Row) : Type 0 where
   pub cmp : Code r.head.cmp
-  pub rhs : Held r.head.rhs
+  pub rhs : Binary64 r.head.rhs
   pub count : length r.terms ≡ r.head.count
   pub upto : t + r.head.count ≤ 512
   pub terms : Every TermOk r.terms
@@ -36,8 +36,8 @@ pub record SheetOk (h : Settings) (vs : List Variable) (rs : List Row) : Type 0 
   pub few_vars : h.vars ≤ 128
   pub row_count : length rs ≡ h.rows
   pub few_rows : h.rows ≤ 128
-  pub feasibility : Held h.feasibility
-  pub int_tol : Held h.int_tol
+  pub feasibility : Binary64 h.feasibility
+  pub int_tol : Binary64 h.int_tol
   pub mode : Code h.mode
   pub variables : Every VariableOk vs
   pub rows_ok : RowsOk 0 rs

@@ -6,7 +6,7 @@ ghost use Rattle.model_file.specs.Places.{answered};
 ghost use Rattle.model_file.specs.Skips.{map_got, after, upto};
 ghost use Rattle.model_file.specs.Reading.{SameSlices, lent, read_into};
 ghost use Rattle.model_file.specs.Answers.{Ready};
-ghost use Rattle.model_file.specs.Fills.{Filled, RowPlace, Roomy, sizes, put_start, fill_row, fill_rows};
+ghost use Rattle.model_file.specs.Fills.{ListFilled, RowPlace, Roomy, sizes, put_start, fill_row, fill_rows};
 
 use crate::parts::Part;
 use crate::reader::Reader;
@@ -21,7 +21,7 @@ fn fill<P: Part>(
 ) -> Result<(), FileRefusal>
     requires { (i : ℕ) → i < end → P.place i (sizes (lent model.old)) }
     ensures same { SameSlices model.old model.new }
-    ensures filled { Filled P.parser P.put_gives (end - from) reader.old.rest.now from result reader.new.rest.now (lent model.old) (lent model.new) }
+    ensures filled { ListFilled P.parser P.put_gives (end - from) reader.old.rest.now from result reader.new.rest.now (lent model.old) (lent model.new) }
 {
     for i in from..end {
         P::read(reader)?.put(model, i);

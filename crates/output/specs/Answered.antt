@@ -16,7 +16,7 @@ use Rattle.view.specs.Acts.{Ready}
 use Rattle.view.specs.Steps.{ready_under}
 use Rattle.view.specs.Known.{Written}
 use Rattle.view.specs.Lists.{length_map}
-use Rattle.emit.specs.Settled.{out_of}
+use Rattle.view.specs.Settled.{out_of}
 use Rattle.emit.specs.Fates.{Fates}
 use Rattle.emit.specs.Filling.{over}
 use Rattle.emit.specs.Spans.{Spanned, Indexed}
@@ -29,13 +29,13 @@ use Rattle.output.specs.Summary.{CountedAs, counted_as, differsBy}
 use Rattle.output.specs.Writing.{outs, keeps, outputs, ListsOut, all-ten}
 
 -- what the read-only slices say of the model: its bounds, and its rows as written
-pub record Given (x : Input) (M : Model) : Type 0 where
+pub record BoundsAndRows (x : Input) (M : Model) : Type 0 where
   pub lower : M.lower ≡ x.lower.now
   pub upper : M.upper ≡ x.upper.now
   pub rows : Written x.rows M
 
 -- THE ANSWER a is in the result slices b', which were b before, and in z
-pub record Answered (a : Reduced) (z : code.Reduced) (b b' : Results) : Type 0 where
+pub record AnswerShown (a : Reduced) (z : code.Reduced) (b b' : Results) : Type 0 where
   pub lists : b' ≡ written a b
   pub counts : CountedAs z.counts a.counts
   pub emitted : z.emitted ≡ length a.emitted
@@ -46,7 +46,7 @@ pub record Answered (a : Reduced) (z : code.Reduced) (b b' : Results) : Type 0 w
 -- whatever settled state the working slices show, it is that state's answer
 pub record WritesOut (P : Model → Type 0) (s : Context) (f : Floats) (n : Numbers) (z : code.Reduced) (b b' : Results) : Type 0 where
   pub writes : (M : Model) (o : List ℕ) (k : ℕ) (u : Work) → P M → Call M s → Shows M f n o u → Inv M k u → (a : Reduced)
-      → answer_of M (final u (out_of M u.rows (length M.rhs))) ≡ done a → Answered a z b b'
+      → answer_of M (final u (out_of M u.rows (length M.rhs))) ≡ done a → AnswerShown a z b b'
 
 -- ---- the answer of a settled state
 abbrev answered : Model → Work → Out → Reduced
@@ -62,7 +62,7 @@ unfolding answer_of reduced_in
 answer-is M u x a e = ap (reduced_in a) e
 
 module _ {M : Model} {s : Context} {f : Floats} {n : Numbers} {o : List ℕ} {k : ℕ} {u : Work} {x : Input}
-    (c : Call M s) (g : Given x M) (h : Shows M f n o u) (i : Inv M k u) (F : Fates M n.fate f.bound u.rows s.rows) where
+    (c : Call M s) (g : BoundsAndRows x M) (h : Shows M f n o u) (i : Inv M k u) (F : Fates M n.fate f.bound u.rows s.rows) where
   abbrev x₀ : Out
   x₀ = out_of M u.rows (length M.rhs)
 
@@ -88,7 +88,7 @@ module _ {M : Model} {s : Context} {f : Floats} {n : Numbers} {o : List ℕ} {k 
   unfolding differsBy differs
   flag_is = rw (h.elo, h.ehi, ← g.lower, ← g.upper, outs-are, keeps-are, c.rows)
 
-  all-answered : {z : code.Reduced} {b b' : Results} → ListsOut s x f n z b b' → Answered (answered M u x₀) z b b'
+  all-answered : {z : code.Reduced} {b b' : Results} → ListsOut s x f n z b b' → AnswerShown (answered M u x₀) z b b'
   all-answered {z} {b} {b'} L =
       record {
         lists = L.lists ∙ lists-are b;
@@ -101,7 +101,7 @@ module _ {M : Model} {s : Context} {f : Floats} {n : Numbers} {o : List ℕ} {k 
 
 -- ---- write_results
 module _ {x : Input} {s : Context} {f : Floats} {n : Numbers} where
-  module _ (R : Ready (Given x) s f n) where
+  module _ (R : Ready (BoundsAndRows x) s f n) where
     pub ready_rows : Ready (Written x.rows) s f n
     ready_rows = ready_under (λ M g. g.rows) R
 
@@ -117,7 +117,7 @@ module _ {x : Input} {s : Context} {f : Floats} {n : Numbers} where
 
   -- after judge_rows
   module _ {f' : Floats} {n' : Numbers} (J : Judged (Written x.rows) s f n f' n' s.rows) where
-    module _ (R : Ready (Given x) s f n) where
+    module _ (R : Ready (BoundsAndRows x) s f n) where
       fates-of : Fates R.model n'.fate f'.bound R.work.rows s.rows
       fates-of = J.fates R.model R.other R.left R.work R.known.rows R.call R.shows R.inv
 
@@ -127,10 +127,10 @@ module _ {x : Input} {s : Context} {f : Floats} {n : Numbers} where
       pub indexed-judged : Indexed s x.rows.starts.now x.rows.index.now n'
       indexed-judged = indexed_of R.call R.known.rows (shows_still J.floats J.numbers R.shows) R.inv fates-of
 
-    pub writes-out : {z : code.Reduced} {b b' : Results} → ListsOut s x f' n' z b b' → WritesOut (Given x) s f n z b b'
+    pub writes-out : {z : code.Reduced} {b b' : Results} → ListsOut s x f' n' z b b' → WritesOut (BoundsAndRows x) s f n z b b'
     writes-out {z} {b} {b'} L =
         record {
           writes = λ M o k u g c h i a e.
-              subst (λ (r : Reduced). Answered r z b b') (answer-is M u (out_of M u.rows (length M.rhs)) a e)
+              subst (λ (r : Reduced). AnswerShown r z b b') (answer-is M u (out_of M u.rows (length M.rhs)) a e)
               (all-answered c g (shows_still J.floats J.numbers h) i (J.fates M o k u g.rows c h i) L);
         }

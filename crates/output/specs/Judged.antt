@@ -4,7 +4,8 @@ use Rattle.std.proofs.Common.{arith, subst}
 use Rattle.definition.specs.Model.{Model}
 use Rattle.space.specs.declared.Context.{Context}
 use Rattle.space.specs.Store.{Floats, Numbers}
-use Rattle.emit.specs.Judging.{TellsTrivial, Judged}
+use Rattle.readers.specs.Trivial.{TellsTrivial}
+use Rattle.emit.specs.Judging.{Judged}
 
 pub told-as : {s : Context} {ss os : List ℕ} {bs : List Float} {r : ℕ} {z b : Bool} → TellsTrivial s ss os bs r z → z ≡ b → TellsTrivial s ss os bs r b
 told-as {s} {ss} {os} {bs} {r} T e = subst (TellsTrivial s ss os bs r) e T

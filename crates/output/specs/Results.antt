@@ -41,7 +41,7 @@ pub record SameSlices (r r' : code.Results) : Type 0 where
   pub term_coeff : r'.term_coeff.ghost_name ≡ r.term_coeff.ghost_name
 
 -- each has as many entries as there are variables, rows or terms
-pub record Room (s : Context) (b : Results) : Type 0 where
+pub record ResultsRoom (s : Context) (b : Results) : Type 0 where
   pub lower : s.vars ≤ length b.lower
   pub upper : s.vars ≤ length b.upper
   pub emit_row : s.rows ≤ length b.emit_row

@@ -7,7 +7,7 @@ use Rattle.definition.specs.Model.{counts}
 use Rattle.definition.specs.Emit.{same_bounds}
 use Rattle.space.specs.declared.Context.{Context}
 use Rattle.space.specs.Store.{Floats, Numbers}
-use Rattle.view.specs.Shows.{tally_of, Counted}
+use Rattle.view.specs.Shows.{tally_of, CountsShown}
 use Rattle.output.specs.declared.Reduced.{Reduced}
 
 -- ---- the counts
@@ -26,7 +26,7 @@ pub record CountedAs (z k : Counts) : Type 0 where
   pub passes : z.passes ≡ k.passes
 
 -- as the working numbers show them
-pub counted_as : (n : Numbers) {z k : Counts} → z ≡ counts_of n → Counted (tally_of n) k → CountedAs z k
+pub counted_as : (n : Numbers) {z k : Counts} → z ≡ counts_of n → CountsShown (tally_of n) k → CountedAs z k
 counted_as n e c =
     record {
       rowsDropped = ap (λ (x : Counts). x.rowsDropped) e ∙ c.dropped;
@@ -37,7 +37,7 @@ counted_as n e c =
     }
 
 -- counts below 2 ^ 64 are the counts
-pub record Small (k : Counts) : Type 0 where
+pub record CountsSmall (k : Counts) : Type 0 where
   pub rowsDropped : k.rowsDropped < 2 ^ 64
   pub boundsTightened : k.boundsTightened < 2 ^ 64
   pub varsFixed : k.varsFixed < 2 ^ 64
@@ -46,7 +46,7 @@ pub record Small (k : Counts) : Type 0 where
 small-mod : (z k : ℕ) → z ≡ k % 2 ^ 64 → k < 2 ^ 64 → z ≡ k
 small-mod z k e p = omega (arith, e, p)
 
-pub counts_are : (z k : Counts) → CountedAs z k → Small k → z ≡ k
+pub counts_are : (z k : Counts) → CountedAs z k → CountsSmall k → z ≡ k
 counts_are z k c p =
     let a = small-mod z.rowsDropped k.rowsDropped c.rowsDropped p.rowsDropped in
     let b = small-mod z.boundsTightened k.boundsTightened c.boundsTightened p.boundsTightened in

@@ -7,7 +7,8 @@ ghost use Rattle.view.specs.Acts.{Ready};
 ghost use Rattle.view.specs.Known.{Written};
 ghost use Rattle.readers.specs.Reading.{Alive};
 ghost use Rattle.emit.specs.FateNumbers.{number_of};
-ghost use Rattle.emit.specs.Judging.{TellsTrivial, Judged, JudgedRow};
+ghost use Rattle.readers.specs.Trivial.{TellsTrivial};
+ghost use Rattle.emit.specs.Judging.{Judged, JudgedRow};
 
 use definition::Rows;
 use emit::Fate;
@@ -43,7 +44,7 @@ fn judge_row(rows: Rows, floats: &mut [f64], numbers: &mut [usize], cx: Context,
     requires ready { Ready (Written rows) cx (floats_of cx floats.old) (numbers_of cx numbers.old) }
     ensures { JudgedRow (Written rows.entry) cx (floats_of cx floats.old) (numbers_of cx numbers.old) (floats_of cx floats.new) (numbers_of cx numbers.new) r }
 {
-    if emit::is_trivial(rows, cx, r) {
+    if readers::is_trivial(rows, cx, r) {
         put_fate(numbers, cx, r, Fate::Trivial);
         return;
     }
@@ -66,7 +67,7 @@ pub(crate) fn judge_rows(rows: Rows, floats: &mut [f64], numbers: &mut [usize], 
     requires ready { Ready (Written rows) cx (floats_of cx floats.old) (numbers_of cx numbers.old) }
     ensures { Judged (Written rows.entry) cx (floats_of cx floats.old) (numbers_of cx numbers.old) (floats_of cx floats.new) (numbers_of cx numbers.new) cx.rows }
 {
-    for r in 0..s.rows {
+    for r in 0..cx.rows {
         judge_row(rows, floats, numbers, cx, r);
     }
 }

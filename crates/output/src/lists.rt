@@ -4,9 +4,9 @@ ghost use Rattle.std.specs.Prelude.{◌≡◌, ◌≤◌, length};
 ghost use Rattle.space.specs.Store.{floats_of, numbers_of, HoldsF, HoldsN};
 ghost use Rattle.view.specs.Acts.{Ready};
 ghost use Rattle.emit.specs.Spans.{Spanned, Indexed};
-ghost use Rattle.output.specs.Results.{held, SameSlices, Room};
+ghost use Rattle.output.specs.Results.{held, SameSlices, ResultsRoom};
 ghost use Rattle.output.specs.Writing.{ListsOut};
-ghost use Rattle.output.specs.Answered.{Given, WritesOut};
+ghost use Rattle.output.specs.Answered.{BoundsAndRows, WritesOut};
 
 use crate::judge::judge_rows;
 use crate::summary::result;
@@ -23,7 +23,7 @@ fn write_lists(
     results: &mut Results,
 ) -> Reduced
     requires holds_f { HoldsF cx floats.now × HoldsN cx numbers.old × (length input.lower.now ≡ cx.vars) × (length input.upper.now ≡ cx.vars) × (cx.rows ≤ length input.rows.rhs.now) }
-    requires room { Room cx (held results.old) }
+    requires room { ResultsRoom cx (held results.old) }
     requires spanned { Spanned cx input.rows.starts.now (numbers_of cx numbers.old) }
     requires indexed { Indexed cx input.rows.starts.now input.rows.index.now (numbers_of cx numbers.old) }
     ensures same { SameSlices results.old results.new }
@@ -61,10 +61,10 @@ pub fn write_results(
     results: &mut Results,
 ) -> Reduced
     requires holds_f { HoldsF cx floats.old × HoldsN cx numbers.old }
-    requires room { Room cx (held results.old) }
-    requires ready { Ready (Given input) cx (floats_of cx floats.old) (numbers_of cx numbers.old) }
+    requires room { ResultsRoom cx (held results.old) }
+    requires ready { Ready (BoundsAndRows input) cx (floats_of cx floats.old) (numbers_of cx numbers.old) }
     ensures same { SameSlices results.old results.new }
-    ensures writes { WritesOut (Given input.entry) cx (floats_of cx floats.old) (numbers_of cx numbers.old) result (held results.old) (held results.new) }
+    ensures writes { WritesOut (BoundsAndRows input.entry) cx (floats_of cx floats.old) (numbers_of cx numbers.old) result (held results.old) (held results.new) }
 {
     judge_rows(input.rows, floats, numbers, cx);
     write_lists(input, floats, numbers, cx, results)

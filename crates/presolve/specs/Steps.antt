@@ -19,18 +19,18 @@ use Rattle.space.specs.declared.Context.{Context}
 use Rattle.space.specs.Store.{Floats, Numbers, HoldsF, HoldsN}
 use Rattle.view.specs.Call.{Call}
 use Rattle.view.specs.Acts.{Ready}
-use Rattle.folds.specs.Written.{Given}
+use Rattle.folds.specs.Written.{Described}
 use Rattle.refuse.specs.declared.Refusal.{Refusal}
 use Rattle.refuse.specs.Number.{number_of}
 use Rattle.refuse.specs.Of.{input_model, refused_is}
 use Rattle.refuse.specs.Rows.{lengths_agree}
-use Rattle.refuse.specs.Accepted.{accepted, Scalars, call_of, Room, room_of}
+use Rattle.refuse.specs.Accepted.{accepted, Scalars, call_of, LentRoom, room_of}
 use Rattle.tally.specs.Theorem.{CountsFit, Fits, counts_fit, fits_infeasible, fits_done}
-use Rattle.emit.specs.Settled.{out_of}
+use Rattle.view.specs.Settled.{out_of}
 use Rattle.output.specs.declared.Reduced as code
 use Rattle.output.specs.Results as results
 use Rattle.output.specs.Results.{Results, written}
-use Rattle.output.specs.Summary.{counts_of, counted_as, Small, counts_are}
+use Rattle.output.specs.Summary.{counts_of, counted_as, CountsSmall, counts_are}
 use Rattle.output.specs.Answered as answered
 use Rattle.output.specs.Answered.{WritesOut}
 use Rattle.reduce.specs.Reducing.{Called, Reduces, ended_is, settled_is}
@@ -83,19 +83,19 @@ pub record Finished (P : Model → Type 0) (s : Context) (f : Floats) (n : Numbe
   pub writes : WritesOut P s f n reduced b b'
 
 -- ---- an accepted call, and its scalars
-pub record Passes (M : Model) (b : Results) (x : Working) : Type 0 where
+pub record NotRefused (M : Model) (b : Results) (x : Working) : Type 0 where
   pub table : refusal M (lengths b x) ≡ none
 
-pub passes : {M : Model} {b : Results} {x : Working} {y : Result ⊤ Refusal} {u : ⊤} → refused_is y ≡ refusal M (lengths b x) → y ≡ Ok u → Passes M b x
+pub passes : {M : Model} {b : Results} {x : Working} {y : Result ⊤ Refusal} {u : ⊤} → refused_is y ≡ refusal M (lengths b x) → y ≡ Ok u → NotRefused M b x
 passes t g = record { table = sym t ∙ ap refused_is g }
 
-pub record Accepted (M : Model) (b : Results) (x : Working) (s : Context) : Type 0 where
+pub record AcceptedCall (M : Model) (b : Results) (x : Working) (s : Context) : Type 0 where
   pub params : M.params ≡ params
   pub table : refusal M (lengths b x) ≡ none
   pub scalars : Scalars M s
 
-pub accept : {M : Model} {b : Results} {x : Working} {s : Context} → Passes M b x → M.params ≡ params → s.vars ≡ length M.obj → s.rows ≡ length M.rhs → s.terms ≡ length M.index
-    → s.mip ≡ mip M.mode → s.feas ≡ M.feas → Accepted M b x s
+pub accept : {M : Model} {b : Results} {x : Working} {s : Context} → NotRefused M b x → M.params ≡ params → s.vars ≡ length M.obj → s.rows ≡ length M.rhs → s.terms ≡ length M.index
+    → s.mip ≡ mip M.mode → s.feas ≡ M.feas → AcceptedCall M b x s
 unfolding is_mip mip
 accept {M} {b} {x} e p v r t i f =
     record {
@@ -121,25 +121,25 @@ input_of M =
       int_tol = M.int_tol;
     }
 
-pub accepted_input : {M : Model} {b : Results} {x : Working} {s : Context} → Accepted M b x s → (i : Input) × (input_model i ≡ M)
+pub accepted_input : {M : Model} {b : Results} {x : Working} {s : Context} → AcceptedCall M b x s → (i : Input) × (input_model i ≡ M)
 unfolding input_of lent
 accepted_input {M} a = (input_of M, ap (λ (p : Params). record M { params = p }) (sym a.params))
 
-module _ (i : Input) {b : Results} {x : Working} {s : Context} (a : Accepted (input_model i) b x s) where
+module _ (i : Input) {b : Results} {x : Working} {s : Context} (a : AcceptedCall (input_model i) b x s) where
   abbrev M : Model
   M = input_model i
 
   call : Call M s
   call = call_of M (lengths b x) s a.table a.params a.scalars
 
-  room : Room s (lengths b x)
+  room : LentRoom s (lengths b x)
   room = room_of M (lengths b x) s a.table a.scalars
 
   abbrev Here : Model → Type 0
   Here = Called i
 
   abbrev Rows : Model → Type 0
-  Rows = answered.Given i
+  Rows = answered.BoundsAndRows i
 
   called : Here M
   called = record {
@@ -152,7 +152,7 @@ module _ (i : Input) {b : Results} {x : Working} {s : Context} (a : Accepted (in
   given = record { lower = refl; upper = refl; rows = record { starts = refl; index = refl; coeff = refl; cmp = refl; rhs = refl } }
 
   -- what reduce asks
-  pub reduce_given : Given Here s
+  pub reduce_given : Described Here s
   reduce_given = record { model = M; known = called; call = call }
 
   pub holds_floats : HoldsF s x.floats
@@ -165,7 +165,7 @@ module _ (i : Input) {b : Results} {x : Working} {s : Context} (a : Accepted (in
   holds_adjacency = room.adjacency
 
   -- what write_results asks
-  pub has_room : results.Room s b
+  pub has_room : results.ResultsRoom s b
   has_room =
       record {
         lower = room.lower;
@@ -195,7 +195,7 @@ module _ (i : Input) {b : Results} {x : Working} {s : Context} (a : Accepted (in
       }
 
   -- the counts are the definition's: none of them reaches 2 ^ 64
-  small : {k : Counts} → CountsFit k → Small k
+  small : {k : Counts} → CountsFit k → CountsSmall k
   small c = record { rowsDropped = c.dropped; boundsTightened = c.tightened; varsFixed = c.fixed; coeffsTightened = c.rewrote }
 
   fit : Fits (presolve M)

@@ -3,7 +3,7 @@ ghost use Rattle.std.specs.Prelude.{Ok};
 ghost use Rattle.refuse.specs.Of.{input_model};
 ghost use Rattle.output.specs.Results.{held, SameSlices};
 ghost use Rattle.presolve.specs.Promise.{working_of, SameSpace, Promise};
-ghost use Rattle.presolve.specs.Steps.{Passes};
+ghost use Rattle.presolve.specs.Steps.{NotRefused};
 
 use crate::ending::{finished, stopped};
 use crate::{Presolved, Space};
@@ -12,7 +12,7 @@ use output::Results;
 use space::Context;
 
 pub(crate) fn accepted(input: Input, results: &mut Results, space: &mut Space) -> Presolved
-    requires { Passes (input_model input) (held results.old) (working_of space.old) }
+    requires { NotRefused (input_model input) (held results.old) (working_of space.old) }
     ensures same_results { SameSlices results.old results.new }
     ensures same_space { SameSpace space.old space.new }
     ensures promise { Promise (input_model input.entry) (held results.old) (working_of space.old) (Ok result) (held results.new) (working_of space.new) }

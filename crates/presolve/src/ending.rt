@@ -3,9 +3,9 @@ ghost use Rattle.std.specs.Prelude.{◌≡◌};
 ghost use Rattle.std.proofs.Math.Option.{none};
 ghost use Rattle.space.specs.Store.{floats_of, numbers_of, HoldsF, HoldsN};
 ghost use Rattle.view.specs.Acts.{Ready};
-ghost use Rattle.output.specs.Results.{held, SameSlices, Room};
+ghost use Rattle.output.specs.Results.{held, SameSlices, ResultsRoom};
 ghost use Rattle.output.specs.Summary.{counts_of};
-ghost use Rattle.output.specs.Answered.{Given};
+ghost use Rattle.output.specs.Answered.{BoundsAndRows};
 ghost use Rattle.presolve.specs.Promise.{working_of, SameSpace, infeasible, presolved_is, working_after};
 ghost use Rattle.presolve.specs.Steps.{Finished};
 
@@ -19,7 +19,9 @@ fn clear(space: &mut Space)
     ensures same { SameSpace space.old space.new }
     ensures zeros { working_of space.new ≡ working_after none (working_of space.old) }
 {
-    zeros::clear(space.floats, space.numbers, space.adjacency);
+    space.floats.fill(0.0);
+    space.numbers.fill(0);
+    space.adjacency.fill(0);
 }
 
 // Infeasible, with the counts reached.
@@ -42,11 +44,11 @@ pub(crate) fn finished(
     space: &mut Space,
 ) -> Presolved
     requires holds_f { HoldsF cx space.old.floats.now × HoldsN cx space.old.numbers.now }
-    requires room { Room cx (held results.old) }
-    requires ready { Ready (Given input) cx (floats_of cx space.old.floats.now) (numbers_of cx space.old.numbers.now) }
+    requires room { ResultsRoom cx (held results.old) }
+    requires ready { Ready (BoundsAndRows input) cx (floats_of cx space.old.floats.now) (numbers_of cx space.old.numbers.now) }
     ensures same_results { SameSlices results.old results.new }
     ensures same_space { SameSpace space.old space.new }
-    ensures finished { Finished (Given input.entry) cx (floats_of cx space.old.floats.now) (numbers_of cx space.old.numbers.now)
+    ensures finished { Finished (BoundsAndRows input.entry) cx (floats_of cx space.old.floats.now) (numbers_of cx space.old.numbers.now)
         result (held results.old) (held results.new) }
     ensures zeros { working_of space.new ≡ working_after none (working_of space.old) }
 {

@@ -52,7 +52,7 @@ front_model h l =
     h.mode h.feasibility h.int_tol
 
 -- its parts are there
-pub record Held (h : Header) (l : Slices) : Type 0 where
+pub record SlicesHold (h : Header) (l : Slices) : Type 0 where
   pub few : h.rows ≤ 128
   pub objective : h.vars ≤ length l.objective
   pub lower : h.vars ≤ length l.lower
@@ -73,7 +73,7 @@ unfolding over
 there n l old e = omega (arith, e, length-append l (drop (length l) old))
 
 module _ (f : Lists) (l : Slices) (s : Small f) where
-  held : Held (header_of f) (filled f l)
+  held : SlicesHold (header_of f) (filled f l)
   unfolding header_of filled
   held =
       record {
@@ -126,7 +126,7 @@ module _ (s : List ℕ) (l : Slices) (w : Wide l) where
       (let y : FileRead.Refused n ≡ FileRead.Model (header_of f) = ap (λ (o : Out). o.answer) (e ∙ into_file f l w (small s f p)) in
       let z : ◌≡◌ {A = ℕ} 0 1 = cc in omega arith)
 
-  lists_by : (d : Decoded) {h : Header} {l' : Slices} → decode s ≡ d → out (FileRead.Model h) l' ≡ into d l → Held h l' × Is (front_model h l') d
+  lists_by : (d : Decoded) {h : Header} {l' : Slices} → decode s ≡ d → out (FileRead.Model h) l' ≡ into d l → SlicesHold h l' × Is (front_model h l') d
   unfolding into
   lists_by (refusal m) {h} p e = absurd (let y : FileRead.Model h ≡ FileRead.Refused m = ap (λ (o : Out). o.answer) e in let z : ◌≡◌ {A = ℕ} 0 1 = cc in omega arith)
   lists_by (file f) {h} {l'} p e =
@@ -142,11 +142,11 @@ module _ (s : List ℕ) (l : Slices) (w : Wide l) {r : FileRead} {l' : Slices} (
   unfolding read_into
   refused_number q = number_by s l w (decode s) refl (ap (λ (x : FileRead). out x l') (sym q) ∙ e)
 
-  read_model : {h : Header} → r ≡ FileRead.Model h → Held h l' × Is (front_model h l') (decode s)
+  read_model : {h : Header} → r ≡ FileRead.Model h → SlicesHold h l' × Is (front_model h l') (decode s)
   unfolding read_into
   read_model q = lists_by s l w (decode s) refl (ap (λ (x : FileRead). out x l') (sym q) ∙ e)
 
-  pub read_held : {h : Header} → r ≡ FileRead.Model h → Held h l'
+  pub read_held : {h : Header} → r ≡ FileRead.Model h → SlicesHold h l'
   read_held q = (read_model q).0
 
   pub read_lists : {h : Header} → r ≡ FileRead.Model h → Is (front_model h l') (decode s)

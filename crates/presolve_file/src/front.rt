@@ -2,13 +2,13 @@
 ghost use Rattle.std.specs.Prelude.{◌≡◌};
 ghost use Rattle.refuse.specs.Of.{input_model};
 ghost use Rattle.model_file.specs.Reading.{lent};
-ghost use Rattle.presolve_file.specs.Front.{Held, front_model};
+ghost use Rattle.presolve_file.specs.Front.{SlicesHold, front_model};
 
 use definition::{Input, Rows};
 use model_file::{Header, ModelSlices};
 
 pub(crate) fn front<'a>(header: Header, model: &'a ModelSlices<'_>) -> Input<'a>
-    requires { Held header (lent model.now) }
+    requires { SlicesHold header (lent model.now) }
     ensures { input_model result ≡ front_model header (lent model.now) }
 {
     let Header {

@@ -7,7 +7,7 @@ use borrow.Author.Tests.{le-leb, lt-leb}
 use Rattle.std.proofs.Math.ListN.{length, drop}
 use Rattle.std.proofs.Math.Seq.{sets-eq}
 use Rattle.floats.specs.Num.{choose}
-use Rattle.print_result.specs.Sink.{top, Counted, Filled}
+use Rattle.print_result.specs.Sink.{top, BytesCounted, BytesFilled}
 
 pub record Outcome : Type 0 where
   pub answer : Option ℕ
@@ -20,15 +20,15 @@ unfoldable pub printed : List ℕ → List ℕ → Outcome
 printed t l = choose (leb (length t) (length l)) (outcome (Some (length t)) (t ++ drop (length t) l)) (outcome None l)
 
 -- ---- a first run that only counts says whether there is room
-counted : {t : List ℕ} {n : ℕ} → Counted t 0 n → n ≡ min (length t) top
+counted : {t : List ℕ} {n : ℕ} → BytesCounted t 0 n → n ≡ min (length t) top
 counted c = let p = c.is (omega arith) in omega (arith, p)
 
-module _ {t : List ℕ} {l : List ℕ} {n : ℕ} (c : Counted t 0 n) where
+module _ {t : List ℕ} {l : List ℕ} {n : ℕ} (c : BytesCounted t 0 n) where
   pub no_room : length l < n → outcome None l ≡ printed t l
   unfolding printed choose
   no_room h = rw (lt-leb (length t) (length l) (omega (arith, counted c)))
 
-  pub written : {l' : List ℕ} {m : ℕ} → length l < top → n ≤ length l → Filled t l 0 l' m → outcome (Some m) l' ≡ printed t l
+  pub written : {l' : List ℕ} {m : ℕ} → length l < top → n ≤ length l → BytesFilled t l 0 l' m → outcome (Some m) l' ≡ printed t l
   unfolding printed choose
   written {l'} {m} s h f =
       let r : length t ≤ length l = omega (arith, counted c) in

@@ -9,23 +9,23 @@ abbrev pub top : ℕ
 top = 18446744073709551615
 
 -- counting the text t takes n to m
-pub record Counted (t : List ℕ) (n m : ℕ) : Type 0 where
+pub record BytesCounted (t : List ℕ) (n m : ℕ) : Type 0 where
   pub is : n ≤ top → m ≡ min (n + length t) top
 
-pub counted_none : (n : ℕ) → Counted [] n n
+pub counted_none : (n : ℕ) → BytesCounted [] n n
 counted_none n = record { is = λ h. omega arith }
 
-pub counted_joined : {a b : List ℕ} {n m k : ℕ} → Counted a n m → Counted b m k → Counted (a ++ b) n k
+pub counted_joined : {a b : List ℕ} {n m k : ℕ} → BytesCounted a n m → BytesCounted b m k → BytesCounted (a ++ b) n k
 counted_joined {a} {b} {n} {m} {k} c d =
     record { is = λ h. let p = c.is h in let q = d.is (omega (arith, p)) in omega (arith, p, q, length-append a b) }
 
 -- writing the text t, if there is room for it, takes the buffer l and the place i to m and j
-pub record Filled (t l : List ℕ) (i : ℕ) (m : List ℕ) (j : ℕ) : Type 0 where
+pub record BytesFilled (t l : List ℕ) (i : ℕ) (m : List ℕ) (j : ℕ) : Type 0 where
   pub long : length m ≡ length l
   pub bytes : i + length t ≤ length l → m ≡ sets l i t
   pub place : i + length t ≤ length l → j ≡ i + length t
 
-pub filled_none : (l : List ℕ) (i : ℕ) → Filled [] l i l i
+pub filled_none : (l : List ℕ) (i : ℕ) → BytesFilled [] l i l i
 filled_none l i = record { long = refl; bytes = λ h. refl; place = λ h. omega arith }
 
 sets_append : (l a b : List ℕ) (i : ℕ) → sets (sets l i a) (i + length a) b ≡ sets l i (a ++ b)
@@ -34,7 +34,7 @@ sets_append l (x ∷ a) b i =
     let e : i + suc (length a) ≡ suc i + length a = omega arith in
     ap (λ (k : ℕ). sets (sets (set l i x) (suc i) a) k b) e ∙ sets_append (set l i x) a b (suc i)
 
-pub filled_joined : {a b l m r : List ℕ} {i j k : ℕ} → Filled a l i m j → Filled b m j r k → Filled (a ++ b) l i r k
+pub filled_joined : {a b l m r : List ℕ} {i j k : ℕ} → BytesFilled a l i m j → BytesFilled b m j r k → BytesFilled (a ++ b) l i r k
 filled_joined {a} {b} {l} {m} {r} {i} {j} {k} c d =
     record {
       long = d.long ∙ c.long;

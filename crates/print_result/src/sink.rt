@@ -1,7 +1,7 @@
 // Where a text goes, byte by byte: into a count, or into a lent buffer.
 ghost use Rattle.std.specs.Prelude.{◌≡◌, ℕ, List, [], ◌∷◌, ◌++◌, refl};
 ghost use Rattle.std.proofs.Common.{◌∙◌};
-ghost use Rattle.print_result.specs.Sink.{Counted, counted_none, counted_joined, Filled, filled_none, filled_joined};
+ghost use Rattle.print_result.specs.Sink.{BytesCounted, counted_none, counted_joined, BytesFilled, filled_none, filled_joined};
 
 pub(crate) trait Sink {
     // Relates the sink before a text, the text, and the sink after it.
@@ -20,7 +20,7 @@ pub(crate) trait Sink {
 pub(crate) struct Count(pub(crate) usize);
 
 impl Sink for Count {
-    ghost wrote = { λ s t u. Counted t s.0 u.0 };
+    ghost wrote = { λ s t u. BytesCounted t s.0 u.0 };
 
     ghost none = { λ s. counted_none s.0 };
 
@@ -41,7 +41,7 @@ pub(crate) struct Buffer<'a> {
 
 impl Sink for Buffer<'_> {
     ghost wrote = { λ s t u. (u.bytes.ghost_name ≡ s.bytes.ghost_name)
-        × Filled t s.bytes.now s.place u.bytes.now u.place };
+        × BytesFilled t s.bytes.now s.place u.bytes.now u.place };
 
     ghost none = { λ s. (refl, filled_none s.bytes.now s.place) };
 

@@ -15,7 +15,7 @@ use Rattle.tolerances.specs.Answers.{sum_of, pair_of, option_of, says_unwrap}
 use Rattle.tolerances.specs.Terms.{row_from, slack_by_terms, violated_by_slack}
 use Rattle.definition.specs.declared.Rows.{Rows}
 use Rattle.definition.specs.Model.{Model, from, upto, nnz, written, op_of, rhs_of}
-use Rattle.definition.specs.Work.{Work}
+use Rattle.definition.specs.Work.{Work, trivial}
 use Rattle.definition.specs.Singles.{fixed_value}
 use Rattle.space.specs.declared.Context.{Context}
 use Rattle.space.specs.Store.{Floats, Numbers}
@@ -25,6 +25,7 @@ use Rattle.view.specs.Inv.{Inv, Below}
 use Rattle.view.specs.Acts.{Any}
 use Rattle.view.specs.Known.{Written}
 use Rattle.readers.specs.Reading.{ReadyF, ReadsF}
+use Rattle.readers.specs.Trivial.{TellsTrivial}
 use Rattle.readers.specs.WrittenCoeffs.{zip_length}
 
 -- the terms that stand at a up to e
@@ -98,7 +99,7 @@ when_false b e = rw e
 abbrev pub row_terms : Rows → ℕ → List Term
 row_terms rows r = span_terms rows.index.now rows.coeff.now (get_or rows.starts.now r 0) (get_or rows.starts.now (r + 1) 0)
 
-pub record SpanAt (s : Context) (rows : Rows) (r : ℕ) : Type 0 where
+pub record TermsIn (s : Context) (rows : Rows) (r : ℕ) : Type 0 where
   pub starts : r + 1 < length rows.starts.now
   pub cmps : r < length rows.cmp.now
   pub rhss : r < length rows.rhs.now
@@ -108,7 +109,7 @@ pub record SpanAt (s : Context) (rows : Rows) (r : ℕ) : Type 0 where
   pub below : Below s.vars rows.index.now
 
 module _ {s : Context} {rows : Rows} {r : ℕ} where
-  pub span_at : {M : Model} → Written rows M → Call M s → r < s.rows → SpanAt s rows r
+  pub span_at : {M : Model} → Written rows M → Call M s → r < s.rows → TermsIn s rows r
   unfolding from upto
   span_at {M} k c p =
       let q : r < length M.rhs = omega (arith, p, c.rows) in
@@ -126,10 +127,10 @@ module _ {s : Context} {rows : Rows} {r : ℕ} where
         };
       }
 
-  pub span_ready : {f : Floats} → ReadyF (Written rows) s f → r < s.rows → SpanAt s rows r
+  pub span_ready : {f : Floats} → ReadyF (Written rows) s f → r < s.rows → TermsIn s rows r
   span_ready R p = span_at R.ready.known R.ready.call p
 
-  span_length : SpanAt s rows r → length (row_terms rows r) ≡ get_or rows.starts.now (r + 1) 0 - get_or rows.starts.now r 0
+  span_length : TermsIn s rows r → length (row_terms rows r) ≡ get_or rows.starts.now (r + 1) 0 - get_or rows.starts.now r 0
   unfolding span_terms
   span_length x =
       let a = get_or rows.starts.now r 0 in
@@ -155,15 +156,13 @@ module _ {rows : Rows} (r : ℕ) {M : Model} (k : Written rows M) where
   op_is = ap (λ (l : List ℕ). get_or l r 0) k.cmp
 
   module _ {s : Context} (c : Call M s) (p : r < s.rows) where
-    trivial_is : trivial_verdict M.feas (op_of M r) (length (written M r)) (rhs_of M r) ≡ trivial_verdict s.feas (get_or rows.cmp.now r 0) (get_or rows.starts.now (r + 1) 0 - get_or rows.starts.now r 0) (get_or rows.rhs.now r nan)
-    trivial_is =
-        let l : length (written M r) ≡ get_or rows.starts.now (r + 1) 0 - get_or rows.starts.now r 0 = ap length written_is ∙ span_length (span_at k c p) in
-        ap (λ (x : Float). trivial_verdict x (op_of M r) (length (written M r)) (rhs_of M r)) (sym c.feas) ∙ ap (λ (x : ℕ). trivial_verdict s.feas x (length (written M r)) (rhs_of M r)) op_is
-        ∙ ap (λ (x : ℕ). trivial_verdict s.feas (get_or rows.cmp.now r 0) x (rhs_of M r)) l ∙ ap (trivial_verdict s.feas (get_or rows.cmp.now r 0) (get_or rows.starts.now (r + 1) 0 - get_or rows.starts.now r 0)) rhs_is
+    terms_are : length (written M r) ≡ nnz M r
+    unfolding nnz from upto
+    terms_are = ap length written_is ∙ span_length (span_at k c p) ∙ ap (λ (l : List ℕ). get_or l (r + 1) 0 - get_or l r 0) (sym k.starts)
 
-    says_is : (t : Option Bool) {y : Bool} → option_of t ≡ trivial_verdict s.feas (get_or rows.cmp.now r 0) (get_or rows.starts.now (r + 1) 0 - get_or rows.starts.now r 0) (get_or rows.rhs.now r nan) → y ≡ unwrap_or t false
-        → says_true (trivial_verdict M.feas (op_of M r) (length (written M r)) (rhs_of M r)) ≡ y
-    says_is t et ey = sym (ey ∙ says_unwrap t ∙ ap says_true (et ∙ sym trivial_is))
+    says_is : {y : Bool} → TellsTrivial s rows.starts.now rows.cmp.now rows.rhs.now r y → says_true (trivial_verdict M.feas (op_of M r) (length (written M r)) (rhs_of M r)) ≡ y
+    unfolding trivial
+    says_is T = ap (λ (n : ℕ). says_true (trivial_verdict M.feas (op_of M r) n (rhs_of M r))) terms_are ∙ T.tells M k.starts k.cmp k.rhs c
 
     verdict_is : (m : Float × Float) → slack_violates M.feas (op_of M r) m ≡ slack_violates s.feas (get_or rows.cmp.now r 0) m
     verdict_is m = ap (λ (x : Float). slack_violates x (op_of M r) m) (sym c.feas) ∙ ap (λ (x : ℕ). slack_violates s.feas x m) op_is
@@ -171,15 +170,14 @@ module _ {rows : Rows} (r : ℕ) {M : Model} (k : Written rows M) where
     sum_is : (w : Work) → row_from (fixed_value w) (row_start (rhs_of M r)) (written M r) ≡ row_from (fixed_value w) (row_start (get_or rows.rhs.now r nan)) (row_terms rows r)
     sum_is w = ap (row_from (fixed_value w) (row_start (rhs_of M r))) written_is ∙ ap (λ (x : Float). row_from (fixed_value w) (row_start x) (row_terms rows r)) rhs_is
 
--- ---- empty_row_violated, by whether the row rows.index.now trivially true
-module _ {s : Context} {f : Floats} {rows : Rows} {r : ℕ} (p : r < s.rows) (t : Option Bool) {y : Bool}
-    (et : option_of t ≡ trivial_verdict s.feas (get_or rows.cmp.now r 0) (get_or rows.starts.now (r + 1) 0 - get_or rows.starts.now r 0) (get_or rows.rhs.now r nan)) (ey : y ≡ unwrap_or t false) where
+-- ---- empty_row_violated, by whether the row is trivially true
+module _ {s : Context} {f : Floats} {rows : Rows} {r : ℕ} (p : r < s.rows) {y : Bool} (T : TellsTrivial s rows.starts.now rows.cmp.now rows.rhs.now r y) where
   pub empty_true : y ≡ true → ReadsF (Written rows) s f false (λ M w. violated M.feas (op_of M r) (written M r) (rhs_of M r) (fixed_value w))
   empty_true e =
       record {
         reads = λ M n o j w k c h i.
             violated_by_slack M.feas (op_of M r) (written M r) (rhs_of M r) (fixed_value w)
-            ∙ when_true (slack_violates M.feas (op_of M r) (implied_slack (fixed_value w) (rhs_of M r) (written M r))) (says_is r k c p t et ey ∙ e);
+            ∙ when_true (slack_violates M.feas (op_of M r) (implied_slack (fixed_value w) (rhs_of M r) (written M r))) (says_is r k c p T ∙ e);
       }
 
   pub empty_judged : (u : RowSum) (m : Implied) {z : Bool} → y ≡ false
@@ -191,6 +189,6 @@ module _ {s : Context} {f : Floats} {rows : Rows} {r : ℕ} (p : r < s.rows) (t 
             let d : implied_slack (fixed_value w) (rhs_of M r) (written M r) ≡ pair_of m =
             slack_by_terms (fixed_value w) (rhs_of M r) (written M r) ∙ ap row_slack (sum_is r k c p w ∙ v.reads M n o j w tt c h i) ∙ sym em in
             violated_by_slack M.feas (op_of M r) (written M r) (rhs_of M r) (fixed_value w)
-            ∙ when_false (slack_violates M.feas (op_of M r) (implied_slack (fixed_value w) (rhs_of M r) (written M r))) (says_is r k c p t et ey ∙ e)
+            ∙ when_false (slack_violates M.feas (op_of M r) (implied_slack (fixed_value w) (rhs_of M r) (written M r))) (says_is r k c p T ∙ e)
             ∙ ap (slack_violates M.feas (op_of M r)) d ∙ verdict_is r k c p (pair_of m) ∙ sym ez;
       }

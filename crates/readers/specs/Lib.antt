@@ -5,6 +5,8 @@ pub mod Vars
 pub mod Coeffs
 pub mod WrittenCoeffs
 pub mod Limits
+pub mod Knowing
 pub mod Activity
+pub mod Trivial
 pub mod Empty
 pub mod Binaries

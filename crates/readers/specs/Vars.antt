@@ -1,5 +1,5 @@
 -- A variable's domain, a bound's tolerance and the value of a fixed variable, by the ways through their readers.
-use Rattle.std.specs.Prelude.{ℕ, ◌≡◌, refl, Bool, true, false, ◌&&◌, List, get_or, Float}
+use Rattle.std.specs.Prelude.{ℕ, ◌≡◌, refl, Bool, true, false, not, ◌&&◌, List, eqb, get_or, Float}
 use Rattle.std.proofs.Math.Path.{ap, sym}
 use Rattle.std.proofs.Common.{◌∙◌}
 use Rattle.std.specs.Float.{nan}
@@ -14,31 +14,36 @@ use Rattle.space.specs.declared.Context.{Context}
 use Rattle.space.specs.Store.{Floats, Numbers}
 use Rattle.formulas.specs.declared.Ends.{Ends}
 use Rattle.formulas.specs.Fixing.{int_domain, int_domain_of, fixed_at, fixed_of}
+use Rattle.view.specs.Call.{Call}
 use Rattle.view.specs.Shows.{Shows}
 use Rattle.view.specs.Lists.{yes, no}
 use Rattle.view.specs.Acts.{Any}
 use Rattle.view.specs.Bounds.{elo_is, ehi_is}
 use Rattle.readers.specs.Reading.{ReadsF, ReadsM, Tells, Domains}
 
--- ---- is_int_domain, is_int
-mip_is : (M : Model) (v : ℕ) {z : Bool} → is_mip M ≡ true → is_int_domain M v ≡ z → is_int M v ≡ z
-unfolding is_int
-mip_is M v a b = rw (a, b)
+-- ---- is_int_domain
+pub domain_is : {ds : List ℕ} (v : ℕ) {z : Bool} → z ≡ int_domain (get_or ds v 0) → Tells (Domains ds) z (λ M. is_int_domain M v)
+domain_is v e = record { tells = λ M d. sym (int_domain_of M v) ∙ ap (λ (l : List ℕ). int_domain (get_or l v 0)) d.domain ∙ sym e }
 
-lp_is : (M : Model) (v : ℕ) → is_mip M ≡ false → is_int M v ≡ false
-unfolding is_int
-lp_is M v a = rw a
+-- ---- is_int: in Mip, not Real
+unfoldable pub int_code : Bool → ℕ → Bool
+int_code mip d = mip && not (eqb d 1)
 
-module _ {ds : List ℕ} (v : ℕ) {z : Bool} where
-  pub domain_is : z ≡ int_domain (get_or ds v 0) → Tells (Domains ds) z (λ M. is_int_domain M v)
-  domain_is e = record { tells = λ M d. sym (int_domain_of M v) ∙ ap (λ (l : List ℕ). int_domain (get_or l v 0)) d.domain ∙ sym e }
+pub int_is : {M : Model} {s : Context} {ds : List ℕ} (v : ℕ) → Call M s → M.domain ≡ ds → is_int M v ≡ int_code s.mip (get_or ds v 0)
+unfolding is_int is_int_domain is_mip int_code
+int_is v c e = cc (c.mip, e)
 
-  module _ {s : Context} where
-    pub int_mip : s.mip ≡ true → Tells (Domains ds) z (λ M. is_int_domain M v) → ReadsM (Domains ds) s z (λ M. is_int M v)
-    int_mip e t = record { reads = λ M d c. mip_is M v (sym c.mip ∙ e) (t.tells M d) }
+pub int_yes : {mip : Bool} (d : ℕ) → mip ≡ true → not (eqb d 1) ≡ int_code mip d
+unfolding int_code
+int_yes d e = rw e
 
-pub int_lp : {ds : List ℕ} {s : Context} (v : ℕ) → s.mip ≡ false → ReadsM (Domains ds) s s.mip (λ M. is_int M v)
-int_lp v e = record { reads = λ M d c. lp_is M v (sym c.mip ∙ e) ∙ sym e }
+pub int_no : {mip : Bool} (d : ℕ) → mip ≡ false → false ≡ int_code mip d
+unfolding int_code
+int_no d e = rw e
+
+-- of a model whose domains are ds
+pub int_reads : {ds : List ℕ} {s : Context} (v : ℕ) {z : Bool} → z ≡ int_code s.mip (get_or ds v 0) → ReadsM (Domains ds) s z (λ M. is_int M v)
+int_reads v e = record { reads = λ M d c. int_is v c d.domain ∙ sym e }
 
 -- ---- bound_tol
 module _ {s : Context} {f : Floats} (v : ℕ) {upper : Bool} {x z : Float} where

@@ -11,7 +11,8 @@ ghost use Rattle.space.specs.Store.{floats_of, HoldsF};
 ghost use Rattle.view.specs.Acts.{Any};
 ghost use Rattle.view.specs.Known.{Written};
 ghost use Rattle.readers.specs.Reading.{ReadyF, ReadsF, RowIn};
-ghost use Rattle.readers.specs.Empty.{SpanAt, row_terms};
+ghost use Rattle.readers.specs.Empty.{TermsIn, row_terms};
+ghost use Rattle.readers.specs.Trivial.{TellsTrivial};
 
 use crate::vars::fixed_value;
 use definition::Rows;
@@ -28,10 +29,18 @@ pub fn verdict(rows: Rows, cx: Context, r: usize) -> Option<bool>
     trivial_row_verdict(e - a, rows.cmp[r], rows.rhs[r], cx.feas)
 }
 
+// = trivial: whether row r is true as handed in.
+pub fn is_trivial(rows: Rows, cx: Context, r: usize) -> bool
+    requires { RowIn rows r }
+    ensures { TellsTrivial cx rows.entry.starts.now rows.entry.cmp.now rows.entry.rhs.now r result }
+{
+    verdict(rows, cx, r).unwrap_or(false)
+}
+
 // The sum over the terms of row r as written, from its right side. Not `Row::implied_slack` over a closure: the values
 // stand in the working space, and what is promised is so of every state that it shows.
 fn fixed_sum(rows: Rows, floats: &[f64], cx: Context, r: usize) -> RowSum
-    requires span { SpanAt cx rows r × HoldsF cx floats.now }
+    requires span { TermsIn cx rows r × HoldsF cx floats.now }
     ensures { ReadsF Any cx (floats_of cx floats.now) (sum_of result) (λ M u. row_from (fixed_value u) (row_start (get_or rows.entry.rhs.now r nan)) (row_terms rows.entry r)) }
 {
     let a = rows.starts[r];
@@ -49,7 +58,7 @@ pub fn empty_row_violated(rows: Rows, floats: &[f64], cx: Context, r: usize) -> 
     requires ready_f { ReadyF (Written rows) cx (floats_of cx floats.now) }
     ensures { ReadsF (Written rows.entry) cx (floats_of cx floats.now) result (λ M u. violated M.feas (op_of M r) (written M r) (rhs_of M r) (fixed_value u)) }
 {
-    if verdict(rows, cx, r).unwrap_or(false) {
+    if is_trivial(rows, cx, r) {
         return false;
     }
     fixed_sum(rows, floats, cx, r)

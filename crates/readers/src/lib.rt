@@ -10,6 +10,6 @@ mod vars;
 
 pub use boxes::{Bounds, Emitted, Working};
 pub use coeffs::{place, row_coeff, written_coeff};
-pub use empty::{empty_row_violated, verdict};
-pub use rows::{activity, limits};
+pub use empty::{empty_row_violated, is_trivial, verdict};
+pub use rows::{activity, limits, limits_with_terms};
 pub use vars::{bound_tol, emitted, is_int, is_int_domain};

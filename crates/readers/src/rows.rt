@@ -1,6 +1,6 @@
 // `Work::activity` of src/presolve/work.rs of microlp 0.7.0, changed: what is read of an alive row, its
 // sides and its activity.
-ghost use Rattle.std.specs.Prelude.{◌≡◌, true, ◌&&◌, ◌+◌, ◌^◌, ◌<◌, get_or};
+ghost use Rattle.std.specs.Prelude.{◌≡◌, true, ◌&&◌, ◌+◌, ◌-◌, ◌^◌, ◌<◌, get_or};
 ghost use Rattle.std.specs.Float.{nan};
 ghost use Rattle.tolerances.specs.Tol.{at, term};
 ghost use Rattle.tolerances.specs.Usual.{usual};
@@ -10,6 +10,7 @@ ghost use Rattle.view.specs.Acts.{Ready, Reads, Any};
 ghost use Rattle.view.specs.Known.{Spans};
 ghost use Rattle.readers.specs.Reading.{row_of, Alive, ReadsF};
 ghost use Rattle.readers.specs.Limits.{ReadsLimits};
+ghost use Rattle.readers.specs.Knowing.{SpanAt, LimitsOf};
 ghost use Rattle.readers.specs.Activity.{los_of, his_of};
 
 use crate::boxes::Bounds;
@@ -18,8 +19,16 @@ use definition::Activity;
 use formulas::{Ends, Limits, activity_step, no_activity};
 use space::{Coeffs, Context, Ehi, Elo, FoldScale, Hi, Len, Lo, Shift, Vars};
 
-// The row's four floats, beside how many terms it has as written.
-pub fn limits(floats: &[f64], cx: Context, r: usize, terms: usize) -> Limits
+// = nnz
+fn written_terms(starts: &[usize], r: usize) -> usize
+    requires { SpanAt starts.now r }
+    ensures { result ≡ get_or starts.now (r + 1) 0 - get_or starts.now r 0 }
+{
+    starts[r + 1] - starts[r]
+}
+
+// The row's four floats, and a count of terms: some of what reads them does not look at it.
+pub fn limits_with_terms(floats: &[f64], cx: Context, r: usize, terms: usize) -> Limits
     requires { (r < cx.rows) × HoldsF cx floats.now }
     ensures { ReadsLimits cx (floats_of cx floats.now) r terms result }
 {
@@ -31,6 +40,15 @@ pub fn limits(floats: &[f64], cx: Context, r: usize, terms: usize) -> Limits
         feas: cx.feas,
         terms,
     }
+}
+
+// The row's limits: with all terms that it has as written.
+pub fn limits(starts: &[usize], floats: &[f64], cx: Context, r: usize) -> Limits
+    requires r_lt_rows { (r < cx.rows) × HoldsF cx floats.now }
+    requires span_at { SpanAt starts.now r }
+    ensures { LimitsOf starts.now cx (floats_of cx floats.now) r result }
+{
+    limits_with_terms(floats, cx, r, written_terms(starts, r))
 }
 
 // Whether both emitted bounds of v are of usual size.

@@ -1,13 +1,13 @@
 // `is_int_domain`, `is_int`, `bound_tol` and the value in `empty_row_consistent` of
 // src/presolve/model.rs and work.rs of microlp 0.7.0, changed: what is read of one variable.
-ghost use Rattle.std.specs.Prelude.{◌<◌, length};
-ghost use Rattle.definition.specs.Model.{is_int, is_int_domain};
+ghost use Rattle.std.specs.Prelude.{◌≡◌, ◌<◌, length, get_or};
+ghost use Rattle.definition.specs.Model.{is_int_domain};
 ghost use Rattle.definition.specs.Work.{bound_tol};
 ghost use Rattle.definition.specs.Singles.{fixed_value};
 ghost use Rattle.space.specs.Store.{floats_of, HoldsF};
 ghost use Rattle.view.specs.Acts.{Any};
-ghost use Rattle.readers.specs.Reading.{ReadsF, ReadsM, Tells, Domains};
-ghost use Rattle.readers.specs.Vars.{ReadsEnds};
+ghost use Rattle.readers.specs.Reading.{ReadsF, Tells, Domains};
+ghost use Rattle.readers.specs.Vars.{ReadsEnds, int_code};
 
 use formulas::Ends;
 use space::{Context, Ehi, Elo};
@@ -20,12 +20,13 @@ pub fn is_int_domain(domain: &[u8], v: usize) -> bool
     formulas::is_int_domain(domain[v])
 }
 
-// = is_int
+// = is_int, by the codes alone: whatever the model is (`int_reads` has it of a model).
+#[tactic(auto, unfolding(crate::specs::Vars::int_code, formulas::specs::Fixing::int_domain))]
 pub fn is_int(domain: &[u8], cx: Context, v: usize) -> bool
     requires { v < length domain.now }
-    ensures { ReadsM (Domains domain.now) cx result (λ M. is_int M v) }
+    ensures { result ≡ int_code cx.mip (get_or domain.now v 0) }
 {
-    cx.mip && is_int_domain(domain, v)
+    cx.mip && formulas::is_int_domain(domain[v])
 }
 
 // = bound_tol. `upper` is a flag, as the definition's bound_tol has it: one function with that parameter is plainer

@@ -1,2 +1,3 @@
--- presolve up to its settled rows.
+-- presolve up to its settled rows, and the last look at the rows.
+pub mod Settling
 pub mod Reducing

@@ -12,18 +12,18 @@ use Rattle.space.specs.declared.Context.{Context}
 use Rattle.space.specs.Store.{Floats, Numbers}
 use Rattle.view.specs.declared.Lists.{Lists}
 use Rattle.view.specs.Call.{Call}
-use Rattle.view.specs.Shows.{Shows, Counted, tally_of, StepShown, stopped, went, Outcome}
+use Rattle.view.specs.Shows.{Shows, CountsShown, tally_of, StepShown, stopped, went, Outcome}
 use Rattle.view.specs.Inv.{Inv}
 use Rattle.view.specs.Acts.{Ready, Tries}
 use Rattle.view.specs.Adjacency.{Adjacency}
 use Rattle.view.specs.Known.{Written, known_written}
 use Rattle.view.specs.Steps.{InvStep, stops, goes, went_is, ready_under}
-use Rattle.folds.specs.Written.{Given}
-use Rattle.rows.specs.Steps.{inv_next}
+use Rattle.folds.specs.Written.{Described}
+use Rattle.view.specs.Renamed.{inv_next}
 use Rattle.wave.specs.Begin.{Waves, ready_afresh}
 use Rattle.begin.specs.Start.{Handed, Begins, Stopped, stopped_is, started_is}
-use Rattle.emit.specs.Settled.{settle_from, out_of, final_of, out_settled_lem}
-use Rattle.settle.specs.Settling.{from_keeps}
+use Rattle.view.specs.Settled.{settle_from, out_of, final_of, out_settled_lem}
+use Rattle.reduce.specs.Settling.{from_keeps}
 use Rattle.rounds.specs.After.{Running, running_known}
 use Rattle.rounds.specs.Rounding.{rounds_of, rounds_keeps}
 
@@ -35,15 +35,15 @@ pub record Called (x : Input) (M : Model) : Type 0 where
 
 -- what presolve answers: the counts are shown, or the settled state that its answer is read off
 pub data Reduction (M : Model) (f : Floats) (n : Numbers) : Outcome → Answer → Type 0 where
-  ended : {e₀ : Infeasible} {k : Counts} → Counted (tally_of n) k → Reduction M f n (Err e₀) (infeasible k)
+  ended : {e₀ : Infeasible} {k : Counts} → CountsShown (tally_of n) k → Reduction M f n (Err e₀) (infeasible k)
   settled : {w : Work} {o : List ℕ} {k : ℕ} → Shows M f n o w → Inv M k w → Reduction M f n (Ok tt) (answer_of M (final w (out_of M w.rows (length M.rhs))))
 
 pub record Reduces (P : Model → Type 0) (s : Context) (f : Floats) (n : Numbers) (z : Outcome) : Type 0 where
   pub does : (M : Model) → P M → Call M s → Reduction M f n z (presolve M)
 
 -- what the adjacency slice holds: each variable's rows, where presolve comes to its settled rows
-pub record Adjoins (P : Model → Type 0) (s : Context) (adjacency : List ℕ) (z : Outcome) : Type 0 where
-  pub adjacency : z ≡ (Ok tt) → (M : Model) → P M → Call M s → Adjacency M adjacency
+pub record Adjoins (P : Model → Type 0) (s : Context) (a : List ℕ) (z : Outcome) : Type 0 where
+  pub adjacency : z ≡ (Ok tt) → (M : Model) → P M → Call M s → Adjacency M a
 
 pub adjoins_stopped : {e₀ : Infeasible} {P : Model → Type 0} {s : Context} {adjacency : List ℕ} → Adjoins P s adjacency (Err e₀)
 adjoins_stopped {e₀ = e₀} = record { adjacency = λ t. absurd (let z : ◌≡◌ {A = ℕ} 0 1 = cc in omega arith) }
@@ -83,8 +83,8 @@ module _ {input : Input} where
         mode = p.mode;
       }
 
-  module _ {s : Context} (G : Given (Called input) s) where
-    pub given_handed : Given (Handed input) s
+  module _ {s : Context} (G : Described (Called input) s) where
+    pub given_handed : Described (Handed input) s
     given_handed = record { model = G.model; known = G.known.handed; call = G.call }
 
   -- infeasible at the start
@@ -102,7 +102,7 @@ module _ {input : Input} where
       running M p c = called_running adjacency M p (b.adjacency refl M p.handed c)
 
       -- the state that the rounds have
-      pub ready_rounds : Given (Called input) s → Ready (Running input.obj.now (lists_of input adjacency) input.mode) s f₁ n₁
+      pub ready_rounds : Described (Called input) s → Ready (Running input.obj.now (lists_of input adjacency) input.mode) s f₁ n₁
       ready_rounds G =
           let g = started_is (b.does G.model G.known.handed G.call) in
           record {
@@ -128,7 +128,7 @@ module _ {input : Input} where
 
       module _ {f₂ : Floats} {n₂ : Numbers} (t : Waves (Running input.obj.now (lists_of input adjacency) input.mode) s f₁ n₁ f₂ n₂ (Ok tt) rounds_of) where
         -- the state that is settled
-        pub ready_settle : Given (Called input) s → Ready (Written input.rows) s f₂ n₂
+        pub ready_settle : Described (Called input) s → Ready (Written input.rows) s f₂ n₂
         ready_settle G = ready_under known_written (ready_under running_known (ready_afresh (ready_rounds G) t rounds_keeps))
 
         -- to the end, or infeasible as a row is settled
@@ -158,7 +158,7 @@ pub ended_is : {e₀ : Infeasible} {M : Model} {f : Floats} {n : Numbers} {x : A
 ended_is {e₀ = e₀} (ended {k = k} h) = record { counts = k; is = refl; counted = h }
 
 -- the settled state, which the slices show
-pub record Settled (M : Model) (f : Floats) (n : Numbers) (x : Answer) : Type 0 where
+pub record ShowsSettled (M : Model) (f : Floats) (n : Numbers) (x : Answer) : Type 0 where
   pub work : Work
   pub other : List ℕ
   pub left : ℕ
@@ -166,5 +166,5 @@ pub record Settled (M : Model) (f : Floats) (n : Numbers) (x : Answer) : Type 0 
   pub shows : Shows M f n other work
   pub inv : Inv M left work
 
-pub settled_is : {M : Model} {f : Floats} {n : Numbers} {x : Answer} → Reduction M f n (Ok tt) x → Settled M f n x
+pub settled_is : {M : Model} {f : Floats} {n : Numbers} {x : Answer} → Reduction M f n (Ok tt) x → ShowsSettled M f n x
 settled_is (settled {w} {o} {k} h i) = record { work = w; other = o; left = k; is = refl; shows = h; inv = i }

@@ -4,8 +4,10 @@
 
 ghost use Rattle.std.specs.Prelude.{◌+◌, ◌≤◌, length};
 ghost use Rattle.space.specs.Store.{floats_of, numbers_of, HoldsF, HoldsN};
-ghost use Rattle.folds.specs.Written.{Given};
+ghost use Rattle.folds.specs.Written.{Described};
 ghost use Rattle.reduce.specs.Reducing.{Called, Reduces, Adjoins};
+
+mod settle;
 
 use definition::{Infeasible, Input};
 use space::Context;
@@ -21,7 +23,7 @@ pub fn reduce(
     cx: Context,
 ) -> Result<(), Infeasible>
     requires holds_f { HoldsF cx floats.old × HoldsN cx numbers.old × (cx.vars + 1 + cx.terms ≤ length adjacency.old) }
-    requires given { Given (Called input) cx }
+    requires given { Described (Called input) cx }
     ensures reduces { Reduces (Called input.entry) cx (floats_of cx floats.new) (numbers_of cx numbers.new) result }
     ensures adjoins { Adjoins (Called input.entry) cx adjacency.new result }
 {

@@ -94,7 +94,7 @@ call_of M L s e p c =
     }
 
 -- ---- the lent slices: each result slice has as many entries as there are variables, rows or terms, and the working slices hold their blocks
-pub record Room (s : Context) (L : Lent) : Type 0 where
+pub record LentRoom (s : Context) (L : Lent) : Type 0 where
   pub lower : s.vars ≤ L.lower
   pub upper : s.vars ≤ L.upper
   pub emit_row : s.rows ≤ L.emit_row
@@ -114,7 +114,7 @@ enough : (a : Bool) (have need : ℕ) → (a || ltb have need) ≡ false → (a 
 enough a have need e = let p = neither a (ltb have need) e in (p.0, ltb-false have need p.1)
 
 -- AN ACCEPTED CALL has room
-pub room_of : (M : Model) (L : Lent) (s : Context) → refusal M L ≡ none → Scalars M s → Room s L
+pub room_of : (M : Model) (L : Lent) (s : Context) → refusal M L ≡ none → Scalars M s → LentRoom s L
 unfolding too_short floats_needed numbers_needed adjacency_needed
 room_of M L s e c =
     let a = accepted M L e in

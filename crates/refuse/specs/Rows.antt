@@ -100,12 +100,12 @@ lengths_agree M h =
     }
 
 -- 2: no more than the maxima
-pub record Small (M : Model) : Type 0 where
+pub record WithinMaxima (M : Model) : Type 0 where
   pub vars : length M.obj ≤ 4096
   pub rows : length M.rhs ≤ 8192
   pub terms : length M.index ≤ 65536
 
-pub sizes_small : (M : Model) → too_large M ≡ false → Small M
+pub sizes_small : (M : Model) → too_large M ≡ false → WithinMaxima M
 unfolding too_large
 sizes_small M h =
     let p = neither _ (ltb 65536 (length M.index)) h in

@@ -32,7 +32,7 @@ abbrev pub with_binary : ℕ → Float → Float → Float → Row → Row
 with_binary v a b re x = with_binding (some (added_to v a re (taken (rhs_mag x b) x.binding))) x
 
 -- the row's span has a place for it
-pub record Room (ss : List ℕ) (s : Context) (n : Numbers) (r : ℕ) : Type 0 where
+pub record BinaryRoom (ss : List ℕ) (s : Context) (n : Numbers) (r : ℕ) : Type 0 where
   pub long : r + 1 < length ss
   pub room : get_or ss r 0 + get_or n.binaries r 0 < get_or ss (r + 1) 0
   pub last : get_or ss (r + 1) 0 ≤ s.terms
@@ -64,7 +64,7 @@ add_at bn a v vs k ek l h j q (inr ne) =
     let y : j < length vs = omega (arith, q, ne, ek, length-append vs (v ∷ [])) in
     get_or-set_other bn (a + k) (a + j) v 0 (λ u. ne (omega (arith, u))) ∙ h j y ∙ sym (get_or-append vs (v ∷ []) 0 j y)
 
-module _ {ss : List ℕ} {s : Context} {f : Floats} {n : Numbers} {r : ℕ} (v : ℕ) (a b : Float) (p : r < s.rows) (R : Room ss s n r)
+module _ {ss : List ℕ} {s : Context} {f : Floats} {n : Numbers} {r : ℕ} (v : ℕ) (a b : Float) (p : r < s.rows) (R : BinaryRoom ss s n r)
     (lb : length n.binary ≡ s.terms) (lc : length n.binaries ≡ s.rows) (lw : length f.written ≡ s.rows)
     {k i : ℕ} (ek : k ≡ get_or n.binaries r 0) (ei : i ≡ get_or ss r 0) {d : Float} (ed : d ≡ abs a) {n₁ n₂ : Numbers} (e₁ : n₁ ≡ put_binary (i + k) v n) (e₂ : n₂ ≡ put_binaries r (k + 1) n₁) where
   -- what stood there in the slices, and what the two sums are now

@@ -30,7 +30,7 @@ use Rattle.readers.specs.RowAt.{row_alive, row_shown, row_inv, row_ready, live_p
 use Rattle.folds.specs.Stands.{one_none, turns_acts}
 use Rattle.folds.specs.Relaxing.{lo_one, hi_one}
 use Rattle.coeffs.specs.Keeping.{Nonzero, nonzero_bound, set_inv, rebind_inv, after_inv}
-use Rattle.rewrites.specs.Staying.{Stays, alive_stays, acts_again, reads_again}
+use Rattle.rewrites.specs.Staying.{StaysAlive, alive_stays, acts_again, reads_again}
 use Rattle.rewrites.specs.Stores.{coeff_one}
 use Rattle.rewrites.specs.Adding.{from_is}
 use Rattle.rewrites.specs.Rebinding.{besides_row, LiveAt, rebound, rebound_growth}
@@ -41,13 +41,13 @@ unfolding set_coeff
 set_alive i v y x = refl
 
 -- the live term at place i of row r is v's
-pub record Placed (ss : List ℕ) (s : Context) (n : Numbers) (r i v : ℕ) : Type 0 where
+pub record TermOfVar (ss : List ℕ) (s : Context) (n : Numbers) (r i v : ℕ) : Type 0 where
   pub row : r < s.rows
   pub alive : Alive n r
   pub live : i < get_or n.len r 0
   pub var : v ≡ get_or n.vars (get_or ss r 0 + i) 0
 
-module _ {ss : List ℕ} {s : Context} {f : Floats} {n : Numbers} {r i v : ℕ} (D : Placed ss s n r i v) where
+module _ {ss : List ℕ} {s : Context} {f : Floats} {n : Numbers} {r i v : ℕ} (D : TermOfVar ss s n r i v) where
   term_in : {M : Model} {o : List ℕ} {w : Work} → Call M s → Shows M f n o w → i < length (row_of w r).terms
   term_in c h = omega (arith, D.live, (row_shown c h D.row D.alive).len)
 
@@ -74,7 +74,7 @@ module _ {ss : List ℕ} {s : Context} {f : Floats} {n : Numbers} {r i v : ℕ} 
         })
 
     module _ (z : eq y 0f ≡ false) where
-      pub set_stays : Stays (Spans ss) s f n r (λ M w. set_coeff i v y (row_of w r))
+      pub set_stays : StaysAlive (Spans ss) s f n r (λ M w. set_coeff i v y (row_of w r))
       set_stays =
           record {
             alive = λ M o k w q c h j. set_alive i v y (row_of w r) ∙ row_alive c h D.row D.alive;
@@ -141,7 +141,7 @@ pub same_acts : {P : Model → Type 0} {s : Context} {f : Floats} {n : Numbers} 
 same_acts p al = turns_acts {F = λ M w x. x} p al (record { does = λ M w x q c h. one_none h })
 
 -- f₁ has the coefficient, f₂ and n₂ the binding, f₃ the bound
-module _ {ss : List ℕ} {s : Context} {f : Floats} {n : Numbers} {r i v : ℕ} (a na b bp : Float) (D : Placed ss s n r i v) (z : eq na 0f ≡ false)
+module _ {ss : List ℕ} {s : Context} {f : Floats} {n : Numbers} {r i v : ℕ} (a na b bp : Float) (D : TermOfVar ss s n r i v) (z : eq na 0f ≡ false)
     (R : Ready (Spans ss) s f n) (lc : length f.coeffs ≡ s.terms) {f₁ f₂ : Floats} {n₂ : Numbers} (e₁ : f₁ ≡ put_coeffs (get_or ss r 0 + i) na f)
     {grown : Float} (A : Acts (Spans ss) s f₁ n f₂ n₂ (λ M w. with_row r (rebound r v a b bp M w) w)) (T : Reads (Spans ss) s f₁ n grown (rebound_growth r v a b bp)) where
   both_acts : Acts (Spans ss) s f n f₂ n₂ (λ M w. with_row r (both_of i v a na b bp M w (row_of w r)) w)
@@ -162,7 +162,7 @@ module _ {ss : List ℕ} {s : Context} {f : Floats} {n : Numbers} {r i v : ℕ} 
   unfolding set_coeff
   both_inv M w p e k = rebind_inv w (row_of w r) i v a na bp p e z k b (row_of w r).lo (row_of w r).hi
 
-  both_stays : Stays (Spans ss) s f n r (λ M w. both_of i v a na b bp M w (row_of w r))
+  both_stays : StaysAlive (Spans ss) s f n r (λ M w. both_of i v a na b bp M w (row_of w r))
   both_stays =
       record {
         alive = λ M o k w q c h j. set_alive i v na (row_of w r) ∙ row_alive c h D.row D.alive;

@@ -27,9 +27,9 @@ use Rattle.folds.specs.Besides.{binaries_of}
 use Rattle.folds.specs.Stands.{TellsN, stands_in}
 use Rattle.coeffs.specs.Keeping.{taken_in, binaries_by, binaries_snoc}
 use Rattle.rewrites.specs.Pigeonhole.{binary_more_fits}
-use Rattle.rewrites.specs.Staying.{Stays, shown_stays, acts_again, reads_again}
+use Rattle.rewrites.specs.Staying.{StaysAlive, shown_stays, acts_again, reads_again}
 use Rattle.rewrites.specs.Settling.{kept_of, settled_with, settled_by, settled, settled_growth}
-use Rattle.rewrites.specs.Adding.{added_to, with_binary, Room}
+use Rattle.rewrites.specs.Adding.{added_to, with_binary, BinaryRoom}
 
 -- ---- what is looked at of the row and of the state: the row's terms and its shift, and the emitted lower bounds
 sum_bound : (o : Option Binding) (x : Row) (s : Float) (vs : List ℕ) → sum_coeffs (with_binding o x) s vs ≡ sum_coeffs x s vs
@@ -203,7 +203,7 @@ module _ {ss : List ℕ} {s : Context} {f : Floats} {n : Numbers} {r : ℕ} (v :
 
   -- v is added
   module _ (L : LiveAt ss f n r v) (e : z ≡ false) where
-    pub new_room : Ready (Spans ss) s f n → Room ss s n r
+    pub new_room : Ready (Spans ss) s f n → BinaryRoom ss s n r
     new_room R =
         let y = row_ready R (λ M q. q) p al in
         let x = row_of R.work r in
@@ -217,7 +217,7 @@ module _ {ss : List ℕ} {s : Context} {f : Floats} {n : Numbers} {r : ℕ} (v :
         }
 
     module _ (a b re : Float) where
-      pub new_stays : Stays (Spans ss) s f n r (λ M w. with_binary v a b re (row_of w r))
+      pub new_stays : StaysAlive (Spans ss) s f n r (λ M w. with_binary v a b re (row_of w r))
       new_stays =
           record {
             alive = λ M o k w q c h i. row_alive c h p al;

@@ -21,7 +21,7 @@ use Rattle.readers.specs.RowAt.{row_shown}
 use Rattle.formulas.specs.Bare.{ByTol}
 use Rattle.folds.specs.Apart.{elsewhere, untouched, outside}
 use Rattle.folds.specs.Besides.{binaries_of}
-use Rattle.folds.specs.Stands.{Tells, stands_in}
+use Rattle.folds.specs.Stands.{TellsRow, stands_in}
 use Rattle.folds.specs.Relaxing.{Bound, bound_of}
 use Rattle.coeffs.specs.Bound.{sum_all}
 use Rattle.rewrites.specs.Stores.{bind_one}
@@ -61,7 +61,7 @@ module _ {s : Context} {f : Floats} {n : Numbers} {r : ℕ} (p : r < s.rows) (a 
   bound_at : {M : Model} {o : List ℕ} {w : Work} → Call M s → Shows M f n o w → Bound M (parts_of f n) r (row_of w r).binding
   bound_at c h = bound_of (row_shown c h p a).binding (λ e. omega (arith, e, l))
 
-  pub kept_reads : {ss : List ℕ} (re : Float) {fx wr old room z : Float} → Tells (Spans ss) s r f n fx (λ M w x. fixed_besides w x (binaries_of x.binding))
+  pub kept_reads : {ss : List ℕ} (re : Float) {fx wr old room z : Float} → TellsRow (Spans ss) s r f n fx (λ M w x. fixed_besides w x (binaries_of x.binding))
       → wr ≡ get_or f.written r nan → old ≡ get_or f.kept r nan
       → ByTol s.feas room (λ M. rewrite_room M wr re fx) → z ≡ maxf room old → Reads (Spans ss) s f n z (kept_after r re)
   kept_reads re {fx} {wr} {old} t ew eo er ez =

@@ -14,7 +14,7 @@ use Rattle.readers.specs.Reading.{row_of, Alive}
 use Rattle.readers.specs.RowAt.{alive_of, row_shown}
 
 -- row r become F of the state, where it is alive and has its invariant
-pub record Stays (P : Model → Type 0) (s : Context) (f : Floats) (n : Numbers) (r : ℕ) (F : Model → Work → Row) : Type 0 where
+pub record StaysAlive (P : Model → Type 0) (s : Context) (f : Floats) (n : Numbers) (r : ℕ) (F : Model → Work → Row) : Type 0 where
   pub alive : (M : Model) (o : List ℕ) (k : ℕ) (w : Work) → P M → Call M s → Shows M f n o w → Inv M k w → (F M w).alive ≡ true
   pub inv : (M : Model) (o : List ℕ) (k : ℕ) (w : Work) → P M → Call M s → Shows M f n o w → Inv M k w → RowInv M r (F M w)
 
@@ -34,7 +34,7 @@ row_again r x y w =
     }) (set-set w.rows r x y)
 
 module _ {P : Model → Type 0} {s : Context} {f f₁ : Floats} {n n₁ : Numbers} {r : ℕ} {F : Model → Work → Row} (p : r < s.rows)
-    (A : Acts P s f n f₁ n₁ (λ M w. with_row r (F M w) w)) (S : Stays P s f n r F) where
+    (A : Acts P s f n f₁ n₁ (λ M w. with_row r (F M w) w)) (S : StaysAlive P s f n r F) where
   row_is : {M : Model} {k : ℕ} (w : Work) → Call M s → Inv M k w → row_of (with_row r (F M w) w) r ≡ F M w
   row_is {M} w c i = row_now r (F M w) w (omega (arith, p, c.rows, i.rowses))
 

@@ -13,7 +13,7 @@ ghost use Rattle.view.specs.Known.{Spans};
 ghost use Rattle.readers.specs.Reading.{row_of, Alive};
 ghost use Rattle.formulas.specs.Rewriting.{form_is, maybe_form, maybe_rewrite};
 ghost use Rattle.coeffs.specs.Keeping.{Nonzero};
-ghost use Rattle.rewrites.specs.After.{Placed};
+ghost use Rattle.rewrites.specs.After.{TermOfVar};
 
 use crate::LiveTerm;
 use crate::bindings::rewrite_binding;
@@ -42,7 +42,7 @@ fn rebound(
     na: f64,
     bp: f64,
 )
-    requires holds_f { HoldsF cx floats.old × HoldsN cx numbers.old × Placed starts.now cx (numbers_of cx numbers.old) r t.place t.var × (eq na 0f ≡ false) }
+    requires holds_f { HoldsF cx floats.old × HoldsN cx numbers.old × TermOfVar starts.now cx (numbers_of cx numbers.old) r t.place t.var × (eq na 0f ≡ false) }
     requires ready { Ready (Spans starts.now) cx (floats_of cx floats.old) (numbers_of cx numbers.old) }
     ensures { Acts (Spans starts.now) cx (floats_of cx floats.old) (numbers_of cx numbers.old) (floats_of cx floats.new)
         (numbers_of cx numbers.new) (λ M u. with_row r (rebound_row M (form_is form) u (row_of u r) t.place t.var t.coeff na bp) u) }

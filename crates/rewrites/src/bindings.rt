@@ -8,7 +8,7 @@ ghost use Rattle.view.specs.Acts.{Ready, Acts, Reads};
 ghost use Rattle.view.specs.Known.{Spans};
 ghost use Rattle.readers.specs.Reading.{row_of, Alive};
 ghost use Rattle.rewrites.specs.Settling.{mag_at, rewritten_mag, kept_after, settled, settled_growth};
-ghost use Rattle.rewrites.specs.Adding.{with_binary, Room};
+ghost use Rattle.rewrites.specs.Adding.{with_binary, BinaryRoom};
 ghost use Rattle.rewrites.specs.Rebinding.{LiveAt, rebound, rebound_growth};
 
 use crate::LiveTerm;
@@ -95,7 +95,7 @@ fn add_binary(
     b: f64,
 )
     requires r_lt_rows { (r < cx.rows) × HoldsF cx floats.old × HoldsN cx numbers.old × Alive (numbers_of cx numbers.old) r }
-    requires room { Room starts.now cx (numbers_of cx numbers.old) r }
+    requires room { BinaryRoom starts.now cx (numbers_of cx numbers.old) r }
     ensures { Acts (Spans starts.now) cx (floats_of cx floats.old) (numbers_of cx numbers.old) (floats_of cx floats.new)
         (numbers_of cx numbers.new) (λ M u. with_row r (with_binary t.var t.coeff b (get_or (floats_of cx floats.old).rewritten r nan) (row_of u r)) u) }
 {

@@ -18,8 +18,8 @@ use Rattle.view.specs.Acts.{Ready, Any}
 use Rattle.view.specs.Changes.{ActsBool}
 use Rattle.view.specs.Steps.{InvStep, goes, KeepsStep, went_is}
 use Rattle.view.specs.Bounds.{went_by}
-use Rattle.rows.specs.Steps.{stopped_then, inv_next, inv_then}
-use Rattle.rows.specs.Loop.{Onward}
+use Rattle.view.specs.Renamed.{stopped_then, inv_next, inv_then}
+use Rattle.bounds.specs.Loop.{Onward}
 use Rattle.wave.specs.Begin.{Waves, ready_afresh}
 use Rattle.wave.specs.Again.{left_of, waves_keeps}
 use Rattle.rounds.specs.After.{after_keeps}
@@ -72,12 +72,12 @@ pub rounds_keeps : {P : Model → Type 0} {s : Context} → KeepsStep P s rounds
 rounds_keeps = record { keeps = λ M k w p c i. inv_rounds M.params.max_rounds w c i }
 
 -- ---- j rounds were run, and each changed something
-pub record Rounded (M : Model) (f : Floats) (n : Numbers) (k : ℕ) (w : Work) (cap j : ℕ) : Type 0 where
+pub record RoundsDone (M : Model) (f : Floats) (n : Numbers) (k : ℕ) (w : Work) (cap j : ℕ) : Type 0 where
   pub other : List ℕ
   pub on : Onward M f n other k (λ u. rounds M (cap - j) u ≡ rounds_of M w)
 
 pub record Rounding (P : Model → Type 0) (s : Context) (f₀ : Floats) (n₀ : Numbers) (f : Floats) (n : Numbers) (cap j : ℕ) : Type 0 where
-  pub each : (M : Model) (o : List ℕ) (k : ℕ) (w : Work) → P M → Call M s → Shows M f₀ n₀ o w → Inv M k w → Rounded M f n k w cap j
+  pub each : (M : Model) (o : List ℕ) (k : ℕ) (w : Work) → P M → Call M s → Shows M f₀ n₀ o w → Inv M k w → RoundsDone M f n k w cap j
 
 pub rounding_start : {P : Model → Type 0} {s : Context} {f : Floats} {n : Numbers} {cap : ℕ} → cap ≡ params.max_rounds → Rounding P s f n f n cap 0
 rounding_start {cap = cap} ec =
@@ -99,7 +99,7 @@ record OneRound (M : Model) (f : Floats) (n : Numbers) (k : ℕ) (w : Work) (lef
 
 module _ {P : Model → Type 0} {s : Context} {f₀ f : Floats} {n₀ n : Numbers} {cap j : ℕ} where
   module _ (R : Ready P s f₀ n₀) (T : Rounding P s f₀ n₀ f n cap j) where
-    here : Rounded R.model f n R.left R.work cap j
+    here : RoundsDone R.model f n R.left R.work cap j
     here = T.each R.model R.other R.left R.work R.known R.call R.shows R.inv
 
     pub rounding_ready : Ready P s f n
@@ -131,7 +131,7 @@ module _ {P : Model → Type 0} {s : Context} {f₀ f : Floats} {n₀ n : Number
 
     module _ (l : j < cap) where
       -- one round more
-      one_more : (M : Model) {k : ℕ} (w : Work) (N : Rounded M f n k w cap j) → rounds_of M w ≡ (waves_of M N.on.work >>= λ w1. afterwards M (cap - (j + 1)) w1)
+      one_more : (M : Model) {k : ℕ} (w : Work) (N : RoundsDone M f n k w cap j) → rounds_of M w ≡ (waves_of M N.on.work >>= λ w1. afterwards M (cap - (j + 1)) w1)
       one_more M w N =
           let z : cap - j ≡ suc (cap - (j + 1)) = omega (arith, l) in
           sym N.on.holds ∙ ap (λ (y : ℕ). rounds M y N.on.work) z ∙ rounds_one M (cap - (j + 1)) N.on.work

@@ -8,7 +8,7 @@ use Rattle.definition.specs.Model.{Model, Row, with_alive, as_written}
 use Rattle.definition.specs.Work.{no_row, drop_row}
 use Rattle.rows_kept.specs.Kept.{Kept}
 use Rattle.rows_kept.proofs.RowSteps.{changed_kept}
-use Rattle.rows_kept.specs.Whole.{Read, unread, queues, drops, Held}
+use Rattle.rows_kept.specs.Whole.{Read, unread, queues, drops, HeldThroughout}
 use Rattle.rows_kept.specs.AllRows.{AllRows, EachRow}
 
 pub set_all : (Q : ℕ → Row → Type 0) (rs : List Row) (r : ℕ) (x : Row) → AllRows Q rs → Q r x → AllRows Q (set rs r x)
@@ -51,5 +51,5 @@ module _ (M : Model) {G : ℕ → Type 0} {Q : ℕ → Row → Type 0} (K : Each
   read_all (queues {r} {rows = rs} t h) = snoc_all Q K.past rs r _ (read_size h) (read_all h) (K.steps r).folding.as_written_lem
   read_all (drops {r} {rows = rs} t h) = snoc_all Q K.past rs r _ (read_size h) (read_all h) (K.leaves r _ (K.steps r).folding.as_written_lem)
 
-  pub rows_held : Held M (λ w. AllRows Q w.rows)
+  pub rows_held : HeldThroughout M (λ w. AllRows Q w.rows)
   rows_held = record { kept = kept; passes = λ w p. p; begins = λ ls hs rows queue dirty n b h. read_all h }

@@ -18,7 +18,7 @@ use Rattle.rows_kept.specs.Kept.{Changed, folded, Kept}
 use Rattle.rows_kept.proofs.RowSteps.{changed_alive}
 use Rattle.rows_kept.proofs.Waves.{get_set}
 use Rattle.rows_kept.specs.Outs.{last_fold, Goes, skipped, before, emptied, given, rewrites}
-use Rattle.rows_kept.specs.Whole.{Read, unread, queues, drops, Held, Emitted}
+use Rattle.rows_kept.specs.Whole.{Read, unread, queues, drops, HeldThroughout, Emitted}
 use Rattle.rows_kept.proofs.Lists.{entries_other, entries_own, count_same, count_more}
 use Rattle.rows_kept.specs.Fates.{Fates}
 use Rattle.rows_kept.proofs.Fates.{none_settled, goes_settled}
@@ -117,7 +117,7 @@ module _ (M : Model) where
   read_begins (queues {r} {n} {rows} t h) = one_more r n n rows (as_written M r) (omega arith) (λ u. true≢false u t) (read_begins h)
   read_begins (drops {r} {n} {rows} t h) = one_more r n (suc n) rows (with_alive false (as_written M r)) (omega arith) (λ u. refl) (read_begins h)
 
-  pub held : Held M (Counted M)
+  pub held : HeldThroughout M (Counted M)
   held =
       record {
         kept = kept;

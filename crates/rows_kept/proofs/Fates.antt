@@ -7,11 +7,11 @@ use Rattle.definition.specs.Work.{Work, trivial}
 use Rattle.definition.specs.Emit.{Out, final, written_entry}
 use Rattle.rows_kept.specs.Statements.{entries_of, occurs, Fate, trivially_true, unchanged, dropped, rewritten, Rising, ends, rows_of}
 use Rattle.rows_kept.specs.Outs.{Goes, skipped, before, emptied, given, rewrites}
-use Rattle.rows_kept.specs.Whole.{Held, Emitted}
+use Rattle.rows_kept.specs.Whole.{HeldThroughout, Emitted}
 use Rattle.rows_kept.proofs.Lists.{entries_other, entries_own, occurs_other, occurs_own, rising_more, rising_last, rows_append}
 use Rattle.rows_kept.specs.Fates.{Any, Fates, Settled}
 
-pub any_held : (M : Model) → Held M Any
+pub any_held : (M : Model) → HeldThroughout M Any
 any_held M =
     record {
       kept =

@@ -3,7 +3,7 @@ use Rattle.std.specs.Prelude.{refl, List, Float}
 use Rattle.definition.specs.Model.{Model}
 use Rattle.definition.specs.Work.{drop_row}
 use Rattle.rows_kept.specs.Kept.{Kept}
-use Rattle.rows_kept.specs.Whole.{Rounded, as_given, rounded, Held}
+use Rattle.rows_kept.specs.Whole.{Rounded, as_given, rounded, HeldThroughout}
 use Rattle.rows_kept.proofs.Given.{keeps_set}
 use Rattle.rows_kept.specs.Given.{Given, Keeps}
 
@@ -30,7 +30,7 @@ module _ (M : Model) where
   rounded_upper_lem as_given = record { size = refl; same = λ v i. refl }
   rounded_upper_lem (rounded {hs = hs} v i h) = keeps_set M M.upper hs v _ i (rounded_upper_lem h)
 
-  pub given_held : Held M (Given M)
+  pub given_held : HeldThroughout M (Given M)
   given_held =
       record {
         kept = kept;

@@ -13,7 +13,7 @@ use Rattle.definition.specs.Work.{drop_row}
 use Rattle.definition.specs.Begin.{rounded_lower, rounded_upper}
 use Rattle.definition.specs.Choices.{true≢false, taking}
 use Rattle.rows_kept.specs.Kept.{Value, of_lower, of_upper, Kept}
-use Rattle.rows_kept.specs.Whole.{Rounded, as_given, rounded, Held}
+use Rattle.rows_kept.specs.Whole.{Rounded, as_given, rounded, HeldThroughout}
 use Rattle.rows_kept.specs.NoNan.{NoNan, Numbers, Numeric}
 
 -- ---- an operation on a finite float and a number gives a number
@@ -130,7 +130,7 @@ module _ (M : Model) (N : Numbers M) where
   rounded_upper_lem as_given = record { size = N.sizes; number = N.upper }
   rounded_upper_lem (rounded {hs = hs} v i h) = let k : Numeric (length M.lower) hs = rounded_upper_lem h in numeric_set _ hs v _ (λ l. upper_number _ (k.number v l)) k
 
-  pub no_nan_held : Held M (NoNan M N)
+  pub no_nan_held : HeldThroughout M (NoNan M N)
   no_nan_held =
       record {
         kept = kept;

@@ -18,7 +18,7 @@ use Rattle.rows_kept.specs.Outs.{last_fold, Goes, skipped, before, emptied, give
 use Rattle.rows_kept.specs.Whole.{Emitted}
 use Rattle.rows_kept.specs.AllRows.{EachRow, AllRows}
 use Rattle.rows_kept.proofs.AllRows.{rows_held}
-use Rattle.rows_kept.specs.Sizes.{Fits, Room}
+use Rattle.rows_kept.specs.Sizes.{Fits, TermsRoom}
 
 pub zip_short : (n : ℕ) (vs : List ℕ) (cs : List Float) → length (zip_terms (take n vs) cs) ≤ n
 unfolding zip_terms
@@ -80,14 +80,14 @@ module _ (M : Model) where
   unfolding nnz
   nnz_is r = refl
 
-  pub more_room : {r : ℕ} {w v : Work} {o x : Out} → x.terms ≡ o.terms → Consecutive (length o.terms) 0 x.emitted → Room M r w o → Room M (suc r) v x
+  pub more_room : {r : ℕ} {w v : Work} {o x : Out} → x.terms ≡ o.terms → Consecutive (length o.terms) 0 x.emitted → TermsRoom M r w o → TermsRoom M (suc r) v x
   more_room {r} {o = o} {x} e c h =
       record {
         room = λ S k. omega (arith, ap length e, h.room S (omega arith), S.rise r (omega arith), upto_from r);
         spans_follow = subst (λ (ts : List Term). Consecutive (length ts) 0 x.emitted) (sym e) c;
       }
 
-  pub goes_room : {r : ℕ} {w v : Work} {o x : Out} → Goes M r w o (final v x) → AllRows (Fits M) w.rows → Room M r w o → Room M (suc r) v x
+  pub goes_room : {r : ℕ} {w v : Work} {o x : Out} → Goes M r w o (final v x) → AllRows (Fits M) w.rows → TermsRoom M r w o → TermsRoom M (suc r) v x
   goes_room (skipped t) p h = more_room refl h.spans_follow h
   goes_room (before t a) p h = more_room refl h.spans_follow h
   goes_room (emptied t a) p h = more_room refl h.spans_follow h
@@ -106,6 +106,6 @@ module _ (M : Model) where
         spans_follow = subst (λ (n : ℕ). Consecutive n 0 x.emitted) (sym s) (span_last _ refl refl k h.spans_follow);
       }
 
-pub room_kept : (M : Model) → Emitted M (λ w. AllRows (Fits M) w.rows) (Room M)
+pub room_kept : (M : Model) → Emitted M (λ w. AllRows (Fits M) w.rows) (TermsRoom M)
 room_kept M =
     record { held = rows_held M (size_rows M); none = λ w p. record { room = λ S k. omega arith; spans_follow = no_span }; goes = λ r w v o x p q g h. goes_room M g p h }

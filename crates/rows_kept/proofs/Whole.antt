@@ -21,7 +21,7 @@ use Rattle.rows_kept.specs.Waves.{Capped}
 use Rattle.rows_kept.proofs.AllWaves.{rounds_kept}
 use Rattle.rows_kept.specs.Outs.{Goes, Ends, failed, ended}
 use Rattle.rows_kept.proofs.Outs.{from_ends, goes_kept, goes_passes}
-use Rattle.rows_kept.specs.Whole.{Emitted, From, Held, I, Read, ReadR, Rounded, RoundedB, as_given, crosses, drops, fails_at, found, gave_up, queues, reads, reduced, rounded, rounds_to, unread}
+use Rattle.rows_kept.specs.Whole.{Emitted, From, HeldThroughout, I, Read, ReadR, Rounded, RoundedB, as_given, crosses, drops, fails_at, found, gave_up, queues, reads, reduced, rounded, rounds_to, unread}
 
 module _ (M : Model) where
   pub round_var_lem : (v : ℕ) (b : Bounds) → RoundedB M b → RoundedB M (round_var M v b)
@@ -52,7 +52,7 @@ module _ (M : Model) where
   read_from_lem zero r s h = rw add-zero h
   read_from_lem (suc n) r s h = rw (add-suc, ← suc-add) (read_from_lem n (suc r) _ (read_row_lem r s h))
 
-pub state_only : {M : Model} {P : Work → Type 0} → Held M P → Emitted M P (λ r w o. Unit {0})
+pub state_only : {M : Model} {P : Work → Type 0} → HeldThroughout M P → Emitted M P (λ r w o. Unit {0})
 state_only H = record { held = H; none = λ w p. tt; goes = λ r w v o x p q g h. tt }
 
 module _ (M : Model) {P : Work → Type 0} {J : ℕ → Work → Out → Type 0} (E : Emitted M P J) where

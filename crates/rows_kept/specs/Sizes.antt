@@ -10,6 +10,6 @@ abbrev pub Fits : Model → ℕ → Row → Type 0
 Fits M r row = Spans M → length row.terms + length row.folded ≤ nnz M r
 
 -- ---- what is out: the terms so far fit below where row r's start
-pub record Room (M : Model) (r : ℕ) (w : Work) (o : Out) : Type 0 where
+pub record TermsRoom (M : Model) (r : ℕ) (w : Work) (o : Out) : Type 0 where
   pub room : Spans M → r ≤ length M.rhs → length o.terms ≤ from M r
   pub spans_follow : Consecutive (length o.terms) 0 o.emitted

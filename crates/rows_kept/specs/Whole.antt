@@ -37,14 +37,14 @@ begun ls hs rows queue dirty n =
     record { wlo = ls; whi = hs; elo = ls; ehi = hs; rows = rows; dirty = dirty; coeff_dirty = dirty; queue = queue; counts = counts n 0 0 0 0 }
 
 -- a property of the state holds from the start to the end
-pub record Held (M : Model) (P : Work → Type 0) : Type 0 where
+pub record HeldThroughout (M : Model) (P : Work → Type 0) : Type 0 where
   pub kept : Kept M P
   pub passes : (w : Work) → P w → P (with_counts (passed w.counts) w)
   pub begins : (ls hs : List Float) (rows : List Row) (queue : List ℕ) (dirty : List Bool) (n : ℕ) → Rounded M ls hs → Read M (length M.rhs) rows queue n → P (begun ls hs rows queue dirty n)
 
 -- a property of the state and of what is out, over a held one
 pub record Emitted (M : Model) (P : Work → Type 0) (J : ℕ → Work → Out → Type 0) : Type 0 where
-  pub held : Held M P
+  pub held : HeldThroughout M P
   pub none : (w : Work) → P w → J 0 w no_out
   pub goes : (r : ℕ) (w v : Work) (o x : Out) → P w → P v → Goes M r w o (final v x) → J r w o → J (suc r) v x
 

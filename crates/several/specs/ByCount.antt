@@ -19,9 +19,9 @@ use Rattle.view.specs.Steps.{InvStep, tries_under}
 use Rattle.view.specs.Known.{Spans, Written, Known, known_spans, known_written}
 use Rattle.readers.specs.Reading.{row_of, Alive}
 use Rattle.readers.specs.RowAt.{row_at}
-use Rattle.rows.specs.Knowing.{Moves, known_moves}
-use Rattle.rows.specs.Same.{passes_of, Leaves}
-use Rattle.rows.specs.Steps.{tries_as}
+use Rattle.readers.specs.Knowing.{BoundingRows, known_moves}
+use Rattle.bounds.specs.Same.{passes_of, Leaves}
+use Rattle.view.specs.Renamed.{tries_as}
 use Rattle.singles.specs.Empty.{inv_empty, passes_empty}
 use Rattle.singles.specs.Singleton.{inv_single, passes_single}
 use Rattle.several.specs.Several.{inv_several, passes_several}
@@ -55,11 +55,11 @@ module _ {lists : Lists} {s : Context} {f f' : Floats} {n n' : Numbers} {z : Out
   by_none e t =
       tries_as (λ M o k w q c h i. count_none M r (row_of w r) w (row_of w r).terms (sym (len_of p al el (known_spans M q) c h i) ∙ e)) (tries_under known_written t)
 
-  pub by_one : l ≡ 1 → Tries (Moves lists) s f n f' n' z (λ M w. singleton_row M r (row_of w r) (get_or (row_of w r).terms 0 no_term) w)
+  pub by_one : l ≡ 1 → Tries (BoundingRows lists) s f n f' n' z (λ M w. singleton_row M r (row_of w r) (get_or (row_of w r).terms 0 no_term) w)
       → Tries (Known lists) s f n f' n' z (λ M w. by_count M r (row_of w r) (row_of w r).terms w)
   by_one e t = tries_as (λ M o k w q c h i. count_one M r (row_of w r) w (row_of w r).terms (sym (len_of p al el (known_spans M q) c h i) ∙ e)) (tries_under known_moves t)
 
-  pub by_more : (l ≡ 0 → ⊥) → (l ≡ 1 → ⊥) → Tries (Moves lists) s f n f' n' z (λ M w. several_terms M r (row_of w r) w)
+  pub by_more : (l ≡ 0 → ⊥) → (l ≡ 1 → ⊥) → Tries (BoundingRows lists) s f n f' n' z (λ M w. several_terms M r (row_of w r) w)
       → Tries (Known lists) s f n f' n' z (λ M w. by_count M r (row_of w r) (row_of w r).terms w)
   by_more e d t =
       tries_as

@@ -31,10 +31,10 @@ use Rattle.view.specs.Known.{Spans}
 use Rattle.view.specs.Bounds.{went_by, stopped_by}
 use Rattle.readers.specs.Reading.{row_of, Alive}
 use Rattle.readers.specs.Limits.{ReadsLimits}
-use Rattle.rows.specs.Knowing.{Looks, Marks, Moves, looks_spans, moves_spans, moves_looks, moves_marks, of_limits}
-use Rattle.rows.specs.Steps.{tries_as, acts_as, acts_any}
-use Rattle.rows.specs.Same.{passes_of, rows_blind, passes_blind, Leaves, halts, same}
-use Rattle.rows.specs.Drop.{inv_drop, drop_passes}
+use Rattle.readers.specs.Knowing.{Looks, Marks, BoundingRows, looks_spans, moves_spans, moves_looks, moves_marks, of_limits}
+use Rattle.view.specs.Renamed.{tries_as, acts_as, acts_any}
+use Rattle.bounds.specs.Same.{passes_of, rows_blind, passes_blind, Leaves, halts, same}
+use Rattle.bounds.specs.Drop.{inv_drop, drop_passes}
 use Rattle.implied.specs.Loop.{inv_bounds, leaves_bounds}
 use Rattle.forcing.specs.Fixing.{fix_all_keeps, fix_all_leaves, inv_fix_all}
 
@@ -163,7 +163,7 @@ module _ {tol : Float} {l : ℕ} (x : Limits) (act : Activity) {a b : Bool} (p :
 module _ {lists : Lists} {s : Context} {f : Floats} {n : Numbers} (r : ℕ) {act : Activity} {x : Limits} {l : ℕ} {y : Result Bool Infeasible} (al : Alive n r)
     (ea : Reads (Spans lists.rows.starts.now) s f n act (λ M w. activity M w (row_of w r) true)) (lim : ReadsLimits s f r l x) (en : l ≡ get_or lists.rows.starts.now (r + 1) 0 - get_or lists.rows.starts.now r 0)
     (eb : Says x.feas x.terms y (λ M q. reached (unreachable M q (bare x) act) (may_reduce M q (bare x) act))) where
-  reach_is : {M : Model} {o : List ℕ} {k : ℕ} {w : Work} → Moves lists M → Call M s → Shows M f n o w → Inv M k w
+  reach_is : {M : Model} {o : List ℕ} {k : ℕ} {w : Work} → BoundingRows lists M → Call M s → Shows M f n o w → Inv M k w
       → y ≡ reached (unreachable M r (row_of w r) (activity M w (row_of w r) true)) (may_reduce M r (row_of w r) (activity M w (row_of w r) true))
   reach_is {M} {o} {k} {w} p c h i =
       let row = row_of w r in
@@ -172,14 +172,14 @@ module _ {lists : Lists} {s : Context} {f : Floats} {n : Numbers} (r : ℕ) {act
       ∙ ap (reached (unreachable M r row act)) (may_reduce_of M r act (lim.has M n o w c h al))
       ∙ ap (λ (d : Activity). reached (unreachable M r row d) (may_reduce M r row d)) (sym (ea.reads M o k w (moves_spans M p) c h i))
 
-  pub several_stop : {e e₀ : Infeasible} → y ≡ Err e → Tries (Moves lists) s f n f n (Err e₀) (λ M w. several_terms M r (row_of w r) w)
+  pub several_stop : {e e₀ : Infeasible} → y ≡ Err e → Tries (BoundingRows lists) s f n f n (Err e₀) (λ M w. several_terms M r (row_of w r) w)
   several_stop t =
       record { does = λ M o k w p c h i. stopped_by {w = w} (several_is M r (row_of w r) w ∙ yes _ _ (reached_err _ _ (sym t ∙ reach_is p c h i))) h }
 
   module _ {a : Bool} {z : Ending} (t : y ≡ Ok a) (ez : Reads (Looks lists) s f n z
       (λ M w. end_if a (end_of M r (row_of w r) act (activity M w (row_of w r) false) w))) where
     -- with or without the look at the emitted activity
-    ends : {M : Model} {o : List ℕ} {k : ℕ} {w : Work} → Moves lists M → Call M s → Shows M f n o w → Inv M k w → several_terms M r (row_of w r) w ≡ ended M r (row_of w r) act w z
+    ends : {M : Model} {o : List ℕ} {k : ℕ} {w : Work} → BoundingRows lists M → Call M s → Shows M f n o w → Inv M k w → several_terms M r (row_of w r) w ≡ ended M r (row_of w r) act w z
     unfolding end_if ended
     ends {M} {o} {k} {w} p c h i = by a refl
       where
@@ -202,21 +202,21 @@ module _ {lists : Lists} {s : Context} {f : Floats} {n : Numbers} (r : ℕ) {act
             ∙ ap (ended M r (row_of w r) act w) (ap (λ (d : Bool). end_if d (end_of M r (row_of w r) act (activity M w (row_of w r) false) w)) (sym q) ∙ read)
 
     pub several_min : {f' : Floats} {n' : Numbers} → z ≡ ForceMin → Acts (Marks lists) s f n f' n'
-        (λ M w. drop_row r (row_of w r) (fix_all M true w (row_of w r).terms w)) → Tries (Moves lists) s f n f' n' (Ok tt) (λ M w. several_terms M r (row_of w r) w)
+        (λ M w. drop_row r (row_of w r) (fix_all M true w (row_of w r).terms w)) → Tries (BoundingRows lists) s f n f' n' (Ok tt) (λ M w. several_terms M r (row_of w r) w)
     unfolding ended
     several_min v u = record { does = λ M o k w p c h i. went_by (ends p c h i ∙ ap (ended M r (row_of w r) act w) v) (u.does M o k w (moves_marks M p) c h i) }
 
     pub several_max : {f' : Floats} {n' : Numbers} → z ≡ ForceMax → Acts (Marks lists) s f n f' n'
-        (λ M w. drop_row r (row_of w r) (fix_all M false w (row_of w r).terms w)) → Tries (Moves lists) s f n f' n' (Ok tt) (λ M w. several_terms M r (row_of w r) w)
+        (λ M w. drop_row r (row_of w r) (fix_all M false w (row_of w r).terms w)) → Tries (BoundingRows lists) s f n f' n' (Ok tt) (λ M w. several_terms M r (row_of w r) w)
     unfolding ended
     several_max v u = record { does = λ M o k w p c h i. went_by (ends p c h i ∙ ap (ended M r (row_of w r) act w) v) (u.does M o k w (moves_marks M p) c h i) }
 
-    pub several_drop : {n' : Numbers} → z ≡ Drop → ActsN Any s n n' (λ M w. drop_row r (row_of w r) w) → Tries (Moves lists) s f n f n' (Ok tt) (λ M w. several_terms M r (row_of w r) w)
+    pub several_drop : {n' : Numbers} → z ≡ Drop → ActsN Any s n n' (λ M w. drop_row r (row_of w r) w) → Tries (BoundingRows lists) s f n f n' (Ok tt) (λ M w. several_terms M r (row_of w r) w)
     unfolding ended
     several_drop v u = record { does = λ M o k w p c h i. went_by (ends p c h i ∙ ap (ended M r (row_of w r) act w) v) (u.does M f o k w tt c h i) }
 
-    pub several_implied : {f' : Floats} {n' : Numbers} {y : Outcome} → z ≡ Open → Tries (Moves lists) s f n f' n' y
-        (λ M w. implied_bounds M r (row_of w r) act (row_of w r).terms w) → Tries (Moves lists) s f n f' n' y (λ M w. several_terms M r (row_of w r) w)
+    pub several_implied : {f' : Floats} {n' : Numbers} {y : Outcome} → z ≡ Open → Tries (BoundingRows lists) s f n f' n' y
+        (λ M w. implied_bounds M r (row_of w r) act (row_of w r).terms w) → Tries (BoundingRows lists) s f n f' n' y (λ M w. several_terms M r (row_of w r) w)
     unfolding ended
     several_implied v u = tries_as (λ M o k w p c h i. ends p c h i ∙ ap (ended M r (row_of w r) act w) v) u
 

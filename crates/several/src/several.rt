@@ -12,7 +12,7 @@ ghost use Rattle.formulas.specs.Reduce.{may_reduce};
 ghost use Rattle.view.specs.Acts.{Ready, Reads, Acts, Tries};
 ghost use Rattle.readers.specs.Reading.{row_of, Alive};
 ghost use Rattle.readers.specs.Limits.{ReadsLimits};
-ghost use Rattle.rows.specs.Knowing.{Looks, Marks, Moves};
+ghost use Rattle.readers.specs.Knowing.{Looks, Marks, BoundingRows};
 ghost use Rattle.several.specs.Several.{end_if, end_of, reached};
 
 use definition::{Activity, Infeasible};
@@ -37,7 +37,7 @@ fn force_row(
         (floats_of cx floats.new) (numbers_of cx numbers.new) (λ M u. drop_row r (row_of u r) (fix_all M minCorner u (row_of u r).terms u)) }
 {
     forcing::fix_all(lists, floats, numbers, cx, r, minCorner);
-    rows::drop_row(numbers, cx, r);
+    bounds::drop_row(numbers, cx, r);
 }
 
 // What the emitted activity makes of a row: its variables forced to a corner, the row dropped, or neither. Four ends, so no Option and
@@ -109,18 +109,18 @@ pub(crate) fn several_terms(
     r: usize,
 ) -> Result<(), Infeasible>
     requires r_lt_rows { (r < cx.rows) × HoldsF cx floats.old × HoldsN cx numbers.old × Alive (numbers_of cx numbers.old) r }
-    requires ready { Ready (Moves lists) cx (floats_of cx floats.old) (numbers_of cx numbers.old) }
-    ensures { Tries (Moves lists.entry) cx (floats_of cx floats.old) (numbers_of cx numbers.old)
+    requires ready { Ready (BoundingRows lists) cx (floats_of cx floats.old) (numbers_of cx numbers.old) }
+    ensures { Tries (BoundingRows lists.entry) cx (floats_of cx floats.old) (numbers_of cx numbers.old)
         (floats_of cx floats.new) (numbers_of cx numbers.new) result (λ M u. several_terms M r (row_of u r) u) }
 {
     let starts = lists.rows.starts;
     let act = readers::activity::<Working>(starts, floats, numbers, cx, r);
-    let x = rows::limits(starts, floats, cx, r);
+    let x = readers::limits(starts, floats, cx, r);
     let reduces = reach_of(x, act)?;
     match end_of(lists, floats, numbers, cx, r, x, act, reduces) {
         Ending::ForceMin => force_row(lists, floats, numbers, cx, r, true),
         Ending::ForceMax => force_row(lists, floats, numbers, cx, r, false),
-        Ending::Drop => rows::drop_row(numbers, cx, r),
+        Ending::Drop => bounds::drop_row(numbers, cx, r),
         Ending::Open => return implied::implied_bounds(lists, floats, numbers, cx, r, act),
     }
     Ok(())

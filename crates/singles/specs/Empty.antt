@@ -14,8 +14,8 @@ use Rattle.view.specs.Acts.{ActsN, Any, Tries}
 use Rattle.view.specs.Steps.{InvStep, stops, goes, KeepsStep}
 use Rattle.view.specs.Bounds.{went_by, stopped_by}
 use Rattle.readers.specs.Reading.{row_of, ReadsF}
-use Rattle.rows.specs.Same.{passes_of, Leaves, halts, same}
-use Rattle.rows.specs.Drop.{inv_drop, drop_passes}
+use Rattle.bounds.specs.Same.{passes_of, Leaves, halts, same}
+use Rattle.bounds.specs.Drop.{inv_drop, drop_passes}
 
 module _ {P : Model → Type 0} {s : Context} {f : Floats} {n : Numbers} (r : ℕ) {b : Bool} (g : ReadsF P s f b (λ M w. violated M.feas (op_of M r) (written M r) (rhs_of M r) (fixed_value w))) where
   pub empty_stop : {e₀ : Infeasible} → b ≡ true → Tries P s f n f n (Err e₀) (λ M w. empty_row_check M r (row_of w r) w)

@@ -31,10 +31,10 @@ use Rattle.readers.specs.Reading.{row_of, Alive, ReadsM, Domains}
 use Rattle.readers.specs.Limits.{ReadsLimits}
 use Rattle.readers.specs.Vars.{ReadsEnds}
 use Rattle.readers.specs.RowAt.{row_at, live_place, live_var}
-use Rattle.rows.specs.Knowing.{Marks, Moves, marks_spans, marks_adj, moves_spans, moves_domains, moves_marks, of_limits}
-use Rattle.rows.specs.Same.{Blind, passes_of, rows_blind, passes_blind, Leaves, Same, halts, same, same_next, same_then, emit_leaves}
-use Rattle.rows.specs.Steps.{tries_as, stopped_then, inv_next, inv_then}
-use Rattle.rows.specs.Drop.{inv_drop, drop_passes}
+use Rattle.readers.specs.Knowing.{Marks, BoundingRows, marks_spans, marks_adj, moves_spans, moves_domains, moves_marks, of_limits}
+use Rattle.bounds.specs.Same.{Blind, passes_of, rows_blind, passes_blind, Leaves, Same, halts, same, same_next, same_then, emit_leaves}
+use Rattle.view.specs.Renamed.{tries_as, stopped_then, inv_next, inv_then}
+use Rattle.bounds.specs.Drop.{inv_drop, drop_passes}
 
 -- what is read of an alive row by a function that has the floats alone
 pub record ReadsRow {A : Type 0} (P : Model → Type 0) (s : Context) (f : Floats) (r : ℕ) (z : A) (F : Model → Work → A) : Type 0 where
@@ -81,19 +81,19 @@ misses_is r v a blo bhi lim en e ez =
 -- ---- singleton_bounds
 module _ {lists : Lists} {s : Context} {f : Floats} {n : Numbers} (r v : ℕ) (a blo bhi : Float) {b : Bool} (eb : ReadsM (Domains lists.domain.now) s b (λ M. is_int M v)) where
   pub bounds_int : {f' : Floats} {n' : Numbers} {z : Outcome} → b ≡ true → Tries (Marks lists) s f n f' n' z
-      (λ M w. singleton_int M r (row_of w r) v a blo bhi w) → Tries (Moves lists) s f n f' n' z (λ M w. singleton_bounds M r (row_of w r) v a blo bhi w)
+      (λ M w. singleton_int M r (row_of w r) v a blo bhi w) → Tries (BoundingRows lists) s f n f' n' z (λ M w. singleton_bounds M r (row_of w r) v a blo bhi w)
   unfolding singleton_bounds
   bounds_int e t = tries_as (λ M o k w p c h i. yes _ _ (eb.reads M (moves_domains M p) c ∙ e)) (tries_under moves_marks t)
 
   module _ {d : Bool} (al : Alive n r) (ed : ReadsRow (Spans lists.rows.starts.now) s f r d (λ M w. singleton_misses M r (row_of w r) v a blo bhi w)) where
-    pub bounds_stop : {e₀ : Infeasible} → b ≡ false → d ≡ true → Tries (Moves lists) s f n f n (Err e₀) (λ M w. singleton_bounds M r (row_of w r) v a blo bhi w)
+    pub bounds_stop : {e₀ : Infeasible} → b ≡ false → d ≡ true → Tries (BoundingRows lists) s f n f n (Err e₀) (λ M w. singleton_bounds M r (row_of w r) v a blo bhi w)
     unfolding singleton_bounds
     bounds_stop e u =
         record {
           does = λ M o k w p c h i. stopped_by {w = w} (no _ _ (eb.reads M (moves_domains M p) c ∙ e) ∙ yes _ _ ((ed.reads n al).reads M o k w (moves_spans M p) c h i ∙ u)) h;
         }
 
-    pub bounds_leave : b ≡ false → d ≡ false → Tries (Moves lists) s f n f n (Ok tt) (λ M w. singleton_bounds M r (row_of w r) v a blo bhi w)
+    pub bounds_leave : b ≡ false → d ≡ false → Tries (BoundingRows lists) s f n f n (Ok tt) (λ M w. singleton_bounds M r (row_of w r) v a blo bhi w)
     unfolding singleton_bounds
     bounds_leave e u =
         record {
@@ -180,7 +180,7 @@ module _ {P : Model → Type 0} {s : Context} {f : Floats} {n : Numbers} {ss : L
 module _ {lists : Lists} {s : Context} {f : Floats} {n : Numbers} (r : ℕ) {v : ℕ} {a blo bhi : Float} {x : Limits} (p : r < s.rows) (al : Alive n r)
     (one : get_or n.len r 0 ≡ 1) (ev : v ≡ get_or n.vars (get_or lists.rows.starts.now r 0) 0) (ea : a ≡ get_or f.coeffs (get_or lists.rows.starts.now r 0) nan)
     {l : ℕ} (lim : ReadsLimits s f r l x) (e₁ : blo ≡ lower_side (bare x) a) (e₂ : bhi ≡ upper_side (bare x) a) where
-  single_is : {M : Model} {o : List ℕ} {k : ℕ} {w : Work} → Moves lists M → Call M s → Shows M f n o w → Inv M k w
+  single_is : {M : Model} {o : List ℕ} {k : ℕ} {w : Work} → BoundingRows lists M → Call M s → Shows M f n o w → Inv M k w
       → singleton_row M r (row_of w r) (get_or (row_of w r).terms 0 no_term) w ≡ (singleton_bounds M r (row_of w r) v a blo bhi w >>= λ w1. next (singleton_drop M r (row_of w r) v a blo bhi w1))
   single_is {M} {o} {k} {w} q c h i =
       let row = row_of w r in
@@ -196,17 +196,17 @@ module _ {lists : Lists} {s : Context} {f : Floats} {n : Numbers} (r : ℕ) {v :
       ∙ ap (λ (y : Float). singleton_bounds M r row v a y (upper_side row a) w >>= λ w1. next (singleton_drop M r row v a y (upper_side row a) w1)) b₁
       ∙ ap (λ (y : Float). singleton_bounds M r row v a blo y w >>= λ w1. next (singleton_drop M r row v a blo y w1)) b₂
 
-  pub single_stop : {f₁ : Floats} {n₁ : Numbers} {e₀ : Infeasible} → Tries (Moves lists) s f n f₁ n₁ (Err e₀) (λ M w. singleton_bounds M r (row_of w r) v a blo bhi w)
-      → Tries (Moves lists) s f n f₁ n₁ (Err e₀) (λ M w. singleton_row M r (row_of w r) (get_or (row_of w r).terms 0 no_term) w)
+  pub single_stop : {f₁ : Floats} {n₁ : Numbers} {e₀ : Infeasible} → Tries (BoundingRows lists) s f n f₁ n₁ (Err e₀) (λ M w. singleton_bounds M r (row_of w r) v a blo bhi w)
+      → Tries (BoundingRows lists) s f n f₁ n₁ (Err e₀) (λ M w. singleton_row M r (row_of w r) (get_or (row_of w r).terms 0 no_term) w)
   single_stop {f₁} {n₁} {e₀} t =
       record {
         does = λ M o k w q c h i.
             subst (λ (z : Step). StepShown M f₁ n₁ o (Err e₀) z) (sym (single_is q c h i)) (stopped_then (λ w1. next (singleton_drop M r (row_of w r) v a blo bhi w1)) (t.does M o k w q c h i));
       }
 
-  pub single_goes : {f₁ : Floats} {n₁ n₂ : Numbers} → Tries (Moves lists) s f n f₁ n₁ (Ok tt) (λ M w. singleton_bounds M r (row_of w r) v a blo bhi w)
+  pub single_goes : {f₁ : Floats} {n₁ n₂ : Numbers} → Tries (BoundingRows lists) s f n f₁ n₁ (Ok tt) (λ M w. singleton_bounds M r (row_of w r) v a blo bhi w)
       → Acts Any s f₁ n₁ f₁ n₂ (λ M w. singleton_drop M r (row_of w r) v a blo bhi w)
-      → Tries (Moves lists) s f n f₁ n₂ (Ok tt) (λ M w. singleton_row M r (row_of w r) (get_or (row_of w r).terms 0 no_term) w)
+      → Tries (BoundingRows lists) s f n f₁ n₂ (Ok tt) (λ M w. singleton_row M r (row_of w r) (get_or (row_of w r).terms 0 no_term) w)
   single_goes {f₁} {n₁} {n₂} t u =
       record {
         does = λ M o k w q c h i.

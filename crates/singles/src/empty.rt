@@ -26,6 +26,6 @@ pub fn empty_row_check(
     if readers::empty_row_violated(rows, floats, cx, r) {
         return Err(Infeasible);
     }
-    rows::drop_row(numbers, cx, r);
+    bounds::drop_row(numbers, cx, r);
     Ok(())
 }

@@ -7,7 +7,7 @@ ghost use Rattle.space.specs.Store.{floats_of, numbers_of, HoldsF, HoldsN};
 ghost use Rattle.view.specs.Acts.{Ready, Acts, Tries, Any};
 ghost use Rattle.view.specs.Known.{Spans};
 ghost use Rattle.readers.specs.Reading.{row_of, Alive};
-ghost use Rattle.rows.specs.Knowing.{SpanAt, Marks, Moves};
+ghost use Rattle.readers.specs.Knowing.{SpanAt, Marks, BoundingRows};
 ghost use Rattle.singles.specs.Singleton.{ReadsRow};
 
 use definition::Infeasible;
@@ -37,7 +37,7 @@ fn singleton_int(
     ensures { Tries (Marks lists.entry) cx (floats_of cx floats.old) (numbers_of cx numbers.old)
         (floats_of cx floats.new) (numbers_of cx numbers.new) result (λ M u. definition.singleton_int M r (row_of u r) one.v one.a one.blo one.bhi u) }
 {
-    let x = rows::limits(lists.rows.starts, floats, cx, r);
+    let x = readers::limits(lists.rows.starts, floats, cx, r);
     let lo = x.new_lower(one.a, one.blo, space::get::<Elo>(floats, cx, one.v));
     let hi = x.new_upper(one.a, one.bhi, space::get::<Ehi>(floats, cx, one.v));
     if lo > hi {
@@ -53,7 +53,7 @@ fn singleton_misses(starts: &[usize], floats: &[f64], cx: Context, r: usize, one
     requires span_at { SpanAt starts.now r }
     ensures { ReadsRow (Spans starts.now) cx (floats_of cx floats.now) r result (λ M u. definition.singleton_misses M r (row_of u r) one.v one.a one.blo one.bhi u) }
 {
-    let x = rows::limits(starts, floats, cx, r);
+    let x = readers::limits(starts, floats, cx, r);
     x.misses(one.a, one.blo, one.bhi, readers::emitted(floats, cx, one.v))
 }
 
@@ -67,8 +67,8 @@ fn singleton_bounds(
     one: One,
 ) -> Result<(), Infeasible>
     requires r_lt_rows { (r < cx.rows) × (one.v < cx.vars) × HoldsF cx floats.old × HoldsN cx numbers.old × Alive (numbers_of cx numbers.old) r }
-    requires ready { Ready (Moves lists) cx (floats_of cx floats.old) (numbers_of cx numbers.old) }
-    ensures { Tries (Moves lists.entry) cx (floats_of cx floats.old) (numbers_of cx numbers.old)
+    requires ready { Ready (BoundingRows lists) cx (floats_of cx floats.old) (numbers_of cx numbers.old) }
+    ensures { Tries (BoundingRows lists.entry) cx (floats_of cx floats.old) (numbers_of cx numbers.old)
         (floats_of cx floats.new) (numbers_of cx numbers.new) result (λ M u. definition.singleton_bounds M r (row_of u r) one.v one.a one.blo one.bhi u) }
 {
     if readers::is_int(lists.domain, cx, one.v) {
@@ -86,7 +86,7 @@ fn row_implied(floats: &[f64], cx: Context, r: usize, one: One) -> bool
     ensures { ReadsRow Any cx (floats_of cx floats.now) r result (λ M u. definition.lower_meets M (row_of u r) one.v one.a one.blo u && definition.upper_meets M (row_of u r) one.v one.a one.bhi u) }
 {
     // Neither test asks how many terms the row has.
-    let x = readers::limits(floats, cx, r, 1);
+    let x = readers::limits_with_terms(floats, cx, r, 1);
     let e = readers::emitted(floats, cx, one.v);
     x.lower_meets(one.a, one.blo, e) && x.upper_meets(one.a, one.bhi, e)
 }
@@ -98,7 +98,7 @@ fn singleton_drop(floats: &[f64], numbers: &mut [usize], cx: Context, r: usize, 
         (λ M u. definition.singleton_drop M r (row_of u r) one.v one.a one.blo one.bhi u) }
 {
     if row_implied(floats, cx, r, one) {
-        rows::drop_row(numbers, cx, r);
+        bounds::drop_row(numbers, cx, r);
     }
 }
 
@@ -111,13 +111,13 @@ pub fn singleton_row(
     r: usize,
 ) -> Result<(), Infeasible>
     requires r_lt_rows { (r < cx.rows) × HoldsF cx floats.old × HoldsN cx numbers.old × Alive (numbers_of cx numbers.old) r × (get_or (numbers_of cx numbers.old).len r 0 ≡ 1) }
-    requires ready { Ready (Moves lists) cx (floats_of cx floats.old) (numbers_of cx numbers.old) }
-    ensures { Tries (Moves lists.entry) cx (floats_of cx floats.old) (numbers_of cx numbers.old)
+    requires ready { Ready (BoundingRows lists) cx (floats_of cx floats.old) (numbers_of cx numbers.old) }
+    ensures { Tries (BoundingRows lists.entry) cx (floats_of cx floats.old) (numbers_of cx numbers.old)
         (floats_of cx floats.new) (numbers_of cx numbers.new) result (λ M u. definition.singleton_row M r (row_of u r) (get_or (row_of u r).terms 0 no_term) u) }
 {
     let i = lists.rows.starts[r];
     let a = space::get::<Coeffs>(floats, cx, i);
-    let x = readers::limits(floats, cx, r, 1);
+    let x = readers::limits_with_terms(floats, cx, r, 1);
     let one = One {
         v: space::get::<Vars>(numbers, cx, i),
         a,

@@ -14,7 +14,7 @@ use Rattle.definition.specs.Tighten.{Rewriting, queued, rewrite_step, rewrite_lo
 use Rattle.definition.specs.Choices.{both, taking}
 use Rattle.rows_kept.specs.Kept.{Sided, le, ge, tightened}
 use Rattle.rows_kept.proofs.RowSteps.{changed_kept}
-use Rattle.tally.specs.Tallied.{Short, Tallied, rewrites_one, recount, more, queue_one, change_one}
+use Rattle.tally.specs.Tallied.{RowShort, Tallied, rewrites_one, recount, more, queue_one, change_one}
 use Rattle.tally.specs.Rows.{AllShort, short_kept}
 
 module _ (M : Model) {n k : ℕ} where
@@ -35,17 +35,17 @@ module _ (M : Model) {n k : ℕ} where
   rewrite_all {b = b} (suc m) f nz r i s h p = rewrite_all {b = suc b} m f nz r (suc i) _ (omega arith) (rewrite_one f nz r i s p)
 
 module _ (M : Model) (A : AllShort M) {n k : ℕ} where
-  form_all : {b : ℕ} (f : Form) (r : ℕ) (row : Row) (w : Work) (changed : Bool) → form_of row ≡ f → Sided f → Short row → Tallied n k b w → Tallied n k (b + 65536) (tighten_form M f r row w changed).0
+  form_all : {b : ℕ} (f : Form) (r : ℕ) (row : Row) (w : Work) (changed : Bool) → form_of row ≡ f → Sided f → RowShort row → Tallied n k b w → Tallied n k (b + 65536) (tighten_form M f r row w changed).0
   unfolding tighten_form
   form_all {b} f r row w changed e sided s p =
       let act : Activity = activity M w row true in
       let nz : Float = vacuous_room f row act in
       let s0 : Rewriting = record { row = row; act = act; work = w; changed = changed; broke = false } in
-      let z : Short (rewrite_loop M (length row.terms) f nz r 0 s0).row = changed_kept M (short_kept M A r) (tightened e sided (length row.terms) 0 nz s0 refl) s in
+      let z : RowShort (rewrite_loop M (length row.terms) f nz r 0 s0).row = changed_kept M (short_kept M A r) (tightened e sided (length row.terms) 0 nz s0 refl) s in
       both (λ (x : Work × Bool). Tallied n k (b + 65536) x.0) _ (more (omega arith) p)
       (change_one r _ z (rewrite_all M (length row.terms) f nz r 0 s0 (omega arith) p))
 
-  by_all : {b : ℕ} (f : Form) (r : ℕ) (row : Row) (w : Work) (changed : Bool) → form_of row ≡ f → Short row → Tallied n k b w → Tallied n k (b + 65536) (tighten_by M f r row w changed).0
+  by_all : {b : ℕ} (f : Form) (r : ℕ) (row : Row) (w : Work) (changed : Bool) → form_of row ≡ f → RowShort row → Tallied n k b w → Tallied n k (b + 65536) (tighten_by M f r row w changed).0
   unfolding tighten_by
   by_all le_form r row w changed e s p = form_all le_form r row w changed e le s p
   by_all ge_form r row w changed e s p = form_all ge_form r row w changed e ge s p

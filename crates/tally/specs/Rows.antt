@@ -20,7 +20,7 @@ use Rattle.rows_kept.specs.Kept.{folded}
 use Rattle.rows_kept.specs.RowSteps.{RowKept}
 use Rattle.rows_kept.proofs.RowSteps.{length_swap, changed_kept}
 use Rattle.rows_kept.proofs.Sizes.{written_short}
-use Rattle.tally.specs.Tallied.{Short, Tallied, drops_one, recount, more, fewer, each_more, begin_wave, queue_fits, take_one, change_one}
+use Rattle.tally.specs.Tallied.{RowShort, Tallied, drops_one, recount, more, fewer, each_more, begin_wave, queue_fits, take_one, change_one}
 use Rattle.tally.specs.Bounds.{implied_all, singleton_one, fix_all_lem}
 
 -- what a row, and a wave of 8192 rows, counts at most
@@ -35,7 +35,7 @@ abbrev pub AllShort : Model → Type 0
 AllShort M = (r : ℕ) → nnz M r ≤ 65536
 
 -- to fold a row or to rewrite it adds no term
-pub short_kept : (M : Model) → AllShort M → (r : ℕ) → RowKept M r (Unit {0}) Short
+pub short_kept : (M : Model) → AllShort M → (r : ℕ) → RowKept M r (Unit {0}) RowShort
 unfolding as_written fold_term set_coeff
 short_kept M h r =
     record {
@@ -51,24 +51,24 @@ short_kept M h r =
     }
 
 module _ (M : Model) {n k : ℕ} where
-  drop_one : {b : ℕ} (r : ℕ) (row : Row) (w : Work) → Short row → Tallied n k b w → Tallied n k (suc b) (drop_row r row w)
+  drop_one : {b : ℕ} (r : ℕ) (row : Row) (w : Work) → RowShort row → Tallied n k b w → Tallied n k (suc b) (drop_row r row w)
   unfolding drop_row
   drop_one r row w s p = change_one r _ s (recount drops_one p)
 
-  empty_one : {b : ℕ} (r : ℕ) (row : Row) (w : Work) → Short row → Tallied n k b w → Each (Tallied n k (suc b)) (empty_row_check M r row w)
+  empty_one : {b : ℕ} (r : ℕ) (row : Row) (w : Work) → RowShort row → Tallied n k b w → Each (Tallied n k (suc b)) (empty_row_check M r row w)
   unfolding empty_row_check
   empty_one {b} r row w s p = both (Each (Tallied n k (suc b))) _ (stopped w refl (more (omega arith) p)) (went (drop_one r row w s p))
 
-  singleton_drop_lem : {b : ℕ} (r : ℕ) (row : Row) (v : ℕ) (a blo bhi : Float) (w : Work) → Short row → Tallied n k b w → Tallied n k (suc b) (singleton_drop M r row v a blo bhi w)
+  singleton_drop_lem : {b : ℕ} (r : ℕ) (row : Row) (v : ℕ) (a blo bhi : Float) (w : Work) → RowShort row → Tallied n k b w → Tallied n k (suc b) (singleton_drop M r row v a blo bhi w)
   unfolding singleton_drop
   singleton_drop_lem {b} r row v a blo bhi w s p = both (Tallied n k (suc b)) _ (drop_one r row w s p) (more (omega arith) p)
 
-  singleton_two : {b : ℕ} (r : ℕ) (row : Row) (t : Term) (w : Work) → Short row → Tallied n k b w → Each (Tallied n k (suc (suc b))) (singleton_row M r row t w)
+  singleton_two : {b : ℕ} (r : ℕ) (row : Row) (t : Term) (w : Work) → RowShort row → Tallied n k b w → Each (Tallied n k (suc (suc b))) (singleton_row M r row t w)
   unfolding singleton_row
   singleton_two r row t w s p =
       then (singleton_one M r row t.var _ _ _ w p) (λ x q. more (omega arith) q) (λ x q. went (singleton_drop_lem r row t.var _ _ _ x s q))
 
-  several_all : {b c : ℕ} (r : ℕ) (row : Row) (w : Work) → b + per_row ≤ c → Short row → Tallied n k b w → Each (Tallied n k c) (several_terms M r row w)
+  several_all : {b c : ℕ} (r : ℕ) (row : Row) (w : Work) → b + per_row ≤ c → RowShort row → Tallied n k b w → Each (Tallied n k c) (several_terms M r row w)
   unfolding several_terms
   several_all {b} {c} r row w h s p =
       let E : Step → Type 0 = Each (Tallied n k c) in
@@ -79,7 +79,7 @@ module _ (M : Model) {n k : ℕ} where
       (both E _ (fixes false)
       (both E _ (went (more (omega arith) (drop_one r row w s p))) (implied_all M r row _ row.terms w (omega arith) p))))
 
-  count_all_lem : {b c : ℕ} (r : ℕ) (row : Row) (ts : List Term) (w : Work) → b + per_row ≤ c → Short row → Tallied n k b w → Each (Tallied n k c) (by_count M r row ts w)
+  count_all_lem : {b c : ℕ} (r : ℕ) (row : Row) (ts : List Term) (w : Work) → b + per_row ≤ c → RowShort row → Tallied n k b w → Each (Tallied n k c) (by_count M r row ts w)
   unfolding by_count
   count_all_lem r row [] w h s p = each_more (omega arith) (empty_one r row w s p)
   count_all_lem r row (t ∷ []) w h s p = each_more (omega arith) (singleton_two r row t w s p)
@@ -91,7 +91,7 @@ module _ (M : Model) (A : AllShort M) {n : ℕ} where
   row_all {k} {b} r w p =
       let w1 : Work = with_marks (set w.dirty r false) w.coeff_dirty w.queue w in
       let q : Tallied n k b w1 = take_one r p in
-      let s : Short (fold_fixed M r w1 (get_or w.rows r no_row)) = changed_kept M (short_kept M A r) (folded w1) (p.short r) in
+      let s : RowShort (fold_fixed M r w1 (get_or w.rows r no_row)) = changed_kept M (short_kept M A r) (folded w1) (p.short r) in
       both (Each (Tallied n k (b + per_row))) _ (count_all_lem M r _ _ _ (omega arith) s (change_one r _ s q)) (went (more (omega arith) q))
 
   rows_all : {k b c : ℕ} (rs : List ℕ) (w : Work) → b + length rs * per_row ≤ c → Tallied n (k + length rs) b w → Each (Tallied n k c) (wave_rows M rs w)

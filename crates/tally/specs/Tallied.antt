@@ -32,29 +32,29 @@ pub rewrites_one : {b : ℕ} {c : Counts} → AtMost b c → AtMost (suc b) (rew
 rewrites_one p = record { dropped = omega (arith, p.dropped); tightened = omega (arith, p.tightened); fixed = omega (arith, p.fixed); rewrote = omega (arith, p.rewrote) }
 
 -- a call has no more terms than this, so a row has not
-abbrev pub Short : Row → Type 0
-Short row = length row.terms ≤ 65536
+abbrev pub RowShort : Row → Type 0
+RowShort row = length row.terms ≤ 65536
 
 -- n rows; k counts the wave's rows still to come
-pub record Holds (n k b : ℕ) (c : Counts) (d : List Bool) (q : List ℕ) (rs : List Row) : Type 0 where
+pub record TallyHolds (n k b : ℕ) (c : Counts) (d : List Bool) (q : List ℕ) (rs : List Row) : Type 0 where
   pub counts : AtMost b c
   pub dirties : length d ≡ n
   pub room : length q + k ≤ marked d
   pub rowses : length rs ≡ n
-  pub short : (r : ℕ) → Short (get_or rs r no_row)
+  pub short : (r : ℕ) → RowShort (get_or rs r no_row)
 
 -- bounds and the coefficient pass's marks are free
 abbrev pub Tallied : ℕ → ℕ → ℕ → Work → Type 0
-Tallied n k b w = Holds n k b w.counts w.dirty w.queue w.rows
+Tallied n k b w = TallyHolds n k b w.counts w.dirty w.queue w.rows
 
 module _ {n : ℕ} {d : List Bool} {q : List ℕ} {rs : List Row} where
-  pub recount : {k a b : ℕ} {c e : Counts} → (AtMost a c → AtMost b e) → Holds n k a c d q rs → Holds n k b e d q rs
+  pub recount : {k a b : ℕ} {c e : Counts} → (AtMost a c → AtMost b e) → TallyHolds n k a c d q rs → TallyHolds n k b e d q rs
   recount f p = record { counts = f p.counts; dirties = p.dirties; room = p.room; rowses = p.rowses; short = p.short }
 
-  pub more : {k a b : ℕ} {c : Counts} → a ≤ b → Holds n k a c d q rs → Holds n k b c d q rs
+  pub more : {k a b : ℕ} {c : Counts} → a ≤ b → TallyHolds n k a c d q rs → TallyHolds n k b c d q rs
   more h p = recount (at_most h) p
 
-  pub fewer : {k j b : ℕ} {c : Counts} → j ≤ k → Holds n k b c d q rs → Holds n j b c d q rs
+  pub fewer : {k j b : ℕ} {c : Counts} → j ≤ k → TallyHolds n k b c d q rs → TallyHolds n j b c d q rs
   fewer h p = record { counts = p.counts; dirties = p.dirties; room = omega (arith, p.room); rowses = p.rowses; short = p.short }
 
 pub each_more : {n k a b : ℕ} {s : Step} → a ≤ b → Each (Tallied n k a) s → Each (Tallied n k b) s
@@ -63,7 +63,7 @@ each_more h (went p) = went (more h p)
 
 module _ {n k b : ℕ} {c : Counts} {d : List Bool} {q : List ℕ} {rs : List Row} where
   -- a row that was not queued is
-  pub queue_one : (r : ℕ) → get_or d r true ≡ false → Holds n k b c d q rs → Holds n k b c (set d r true) (q ++ (r ∷ [])) rs
+  pub queue_one : (r : ℕ) → get_or d r true ≡ false → TallyHolds n k b c d q rs → TallyHolds n k b c (set d r true) (q ++ (r ∷ [])) rs
   queue_one r e p =
       record {
         counts = p.counts;
@@ -74,7 +74,7 @@ module _ {n k b : ℕ} {c : Counts} {d : List Bool} {q : List ℕ} {rs : List Ro
       }
 
   -- a wave begins, and is counted: the queued rows are its rows, and all of them are marked
-  pub begin_wave : Holds n k b c d q rs → Holds n (k + length q) b (passed c) d [] rs
+  pub begin_wave : TallyHolds n k b c d q rs → TallyHolds n (k + length q) b (passed c) d [] rs
   begin_wave p =
       record {
         counts = record { dropped = p.counts.dropped; tightened = p.counts.tightened; fixed = p.counts.fixed; rewrote = p.counts.rewrote };
@@ -84,11 +84,11 @@ module _ {n k b : ℕ} {c : Counts} {d : List Bool} {q : List ℕ} {rs : List Ro
         short = p.short;
       }
 
-  pub queue_fits : Holds n k b c d q rs → length q ≤ n
+  pub queue_fits : TallyHolds n k b c d q rs → length q ≤ n
   queue_fits p = omega (arith, p.room, p.dirties, marked_le d)
 
   -- the wave comes to row r
-  pub take_one : (r : ℕ) → Holds n (suc k) b c d q rs → Holds n k b c (set d r false) q rs
+  pub take_one : (r : ℕ) → TallyHolds n (suc k) b c d q rs → TallyHolds n k b c (set d r false) q rs
   take_one r p =
       record {
         counts = p.counts;
@@ -99,12 +99,12 @@ module _ {n k b : ℕ} {c : Counts} {d : List Bool} {q : List ℕ} {rs : List Ro
       }
 
   -- row r is x now
-  pub change_one : (r : ℕ) (x : Row) → Short x → Holds n k b c d q rs → Holds n k b c d q (set rs r x)
+  pub change_one : (r : ℕ) (x : Row) → RowShort x → TallyHolds n k b c d q rs → TallyHolds n k b c d q (set rs r x)
   change_one r x h p =
       record {
         counts = p.counts;
         dirties = p.dirties;
         room = p.room;
         rowses = length-set rs r x ∙ p.rowses;
-        short = set_all (λ (i : ℕ) (y : Row). Short y) rs r x p.short h;
+        short = set_all (λ (i : ℕ) (y : Row). RowShort y) rs r x p.short h;
       }

@@ -58,7 +58,7 @@ pub fits_done : {x : Reduced} → Fits (done x) → CountsFit x.counts
 fits_done (done_fits h) = h
 
 -- ---- so the counts that the slices show are the definition's
-pub record Exact (t : Tally) (c : Counts) : Type 0 where
+pub record TallyExact (t : Tally) (c : Counts) : Type 0 where
   pub dropped : get_or t.dropped 0 0 ≡ c.rowsDropped
   pub tightened : get_or t.tightened 0 0 ≡ c.boundsTightened
   pub fixed : get_or t.fixed 0 0 ≡ c.varsFixed

@@ -24,7 +24,7 @@ use Rattle.rows_kept.specs.Outs.{Goes, skipped, before, missed, emptied, given, 
 use Rattle.rows_kept.proofs.Outs.{one_goes}
 use Rattle.rows_kept.proofs.AllRows.{snoc_all}
 use Rattle.view.specs.Inv.{marked}
-use Rattle.tally.specs.Tallied.{AtMost, at_most, drops_one, Short, Holds, Tallied, more}
+use Rattle.tally.specs.Tallied.{AtMost, at_most, drops_one, RowShort, TallyHolds, Tallied, more}
 use Rattle.tally.specs.Bounds.{dual_step_lem}
 use Rattle.tally.specs.Rows.{per_wave, AllShort, short_kept, waves_all}
 use Rattle.tally.specs.Coefficients.{tighten_all}
@@ -42,7 +42,7 @@ in_all = 3 * per_round + 2 * 8192
 -- ---- the start: the first r rows read
 data Begun (r : ℕ) : Rows → Type 0 where
   fell : {m : ℕ} → m ≤ r → Begun r (false_row m)
-  read : {rows : List Row} {queue : List ℕ} {dirty : List Bool} {m : ℕ} → Holds r 0 r (counts m 0 0 0 0) dirty queue rows → Begun r (rows_are rows queue dirty m)
+  read : {rows : List Row} {queue : List ℕ} {dirty : List Bool} {m : ℕ} → TallyHolds r 0 r (counts m 0 0 0 0) dirty queue rows → Begun r (rows_are rows queue dirty m)
 
 marked_true : (d : List Bool) → marked (d ++ (true ∷ [])) ≡ suc (marked d)
 unfolding marked
@@ -56,22 +56,22 @@ marked_false [] = refl
 marked_false (true ∷ d) = ap suc (marked_false d)
 marked_false (false ∷ d) = marked_false d
 
-one_more : {r : ℕ} {c e : Counts} {d : List Bool} {q : List ℕ} {rs : List Row} (b : Bool) (p : List ℕ) (x : Row) → AtMost (suc r) e → length p ≤ marked (d ++ (b ∷ [])) → Short x
-    → Holds r 0 r c d q rs → Holds (suc r) 0 (suc r) e (d ++ (b ∷ [])) p (rs ++ (x ∷ []))
+one_more : {r : ℕ} {c e : Counts} {d : List Bool} {q : List ℕ} {rs : List Row} (b : Bool) (p : List ℕ) (x : Row) → AtMost (suc r) e → length p ≤ marked (d ++ (b ∷ [])) → RowShort x
+    → TallyHolds r 0 r c d q rs → TallyHolds (suc r) 0 (suc r) e (d ++ (b ∷ [])) p (rs ++ (x ∷ []))
 one_more {r} {d = d} {rs = rs} b p x a m s h =
     record {
       counts = a;
       dirties = omega (arith, h.dirties, length-append d (b ∷ []));
       room = omega (arith, m);
       rowses = omega (arith, h.rowses, length-append rs (x ∷ []));
-      short = snoc_all (λ (i : ℕ) (y : Row). Short y) (λ i. omega arith) rs r x h.rowses h.short s;
+      short = snoc_all (λ (i : ℕ) (y : Row). RowShort y) (λ i. omega arith) rs r x h.rowses h.short s;
     }
 
 module _ (M : Model) (A : AllShort M) where
-  as_written_lem : (r : ℕ) → Short (as_written M r)
+  as_written_lem : (r : ℕ) → RowShort (as_written M r)
   as_written_lem r = (short_kept M A r).folding.as_written_lem
 
-  add_row_lem : (r : ℕ) (rows : List Row) (queue : List ℕ) (dirty : List Bool) (m : ℕ) (o : Option Bool) → Holds r 0 r (counts m 0 0 0 0) dirty queue rows → Begun (suc r) (add_row M r rows queue dirty m o)
+  add_row_lem : (r : ℕ) (rows : List Row) (queue : List ℕ) (dirty : List Bool) (m : ℕ) (o : Option Bool) → TallyHolds r 0 r (counts m 0 0 0 0) dirty queue rows → Begun (suc r) (add_row M r rows queue dirty m o)
   unfolding add_row
   add_row_lem r rows queue dirty m none h =
       read (one_more true (queue ++ (r ∷ [])) _ (at_most (omega arith) h.counts) (omega (arith, h.room, marked_true dirty, length-append queue (r ∷ []))) (as_written_lem r) h)
@@ -91,7 +91,7 @@ module _ (M : Model) (A : AllShort M) where
   begun : Begun (length M.rhs) (read_from M (length M.rhs) 0 (rows_are [] [] [] 0))
   unfolding marked
   begun =
-      let z : Holds 0 0 0 (counts 0 0 0 0 0) [] [] [] =
+      let z : TallyHolds 0 0 0 (counts 0 0 0 0 0) [] [] [] =
       record {
         counts = record { dropped = omega arith; tightened = omega arith; fixed = omega arith; rewrote = omega arith };
         dirties = refl;

@@ -51,18 +51,18 @@ module _ {M : Model} {s : Context} (c : Call M s) (r : ℕ) (p : r < length M.rh
   given_kept = subst (Kept M r x) given_is (hold_kept r w c p x)
 
 -- ---- the state and the carried row have the invariant
-pub record Good (M : Model) (k r : ℕ) (x : Rewriting) : Type 0 where
+pub record RewritingInv (M : Model) (k r : ℕ) (x : Rewriting) : Type 0 where
   pub inv : Inv M k x.work
   pub alive : x.row.alive ≡ true
   pub row : RowInv M r x.row
 
-pub good_shown : {M : Model} {k : ℕ} (r : ℕ) (x : Rewriting) → Good M k r x → Inv M k (shown r x)
+pub good_shown : {M : Model} {k : ℕ} (r : ℕ) (x : Rewriting) → RewritingInv M k r x → Inv M k (shown r x)
 good_shown r x g = inv_row r x.row x.work g.inv (λ _. g.row)
 
 module _ {M : Model} {s : Context} {k : ℕ} (c : Call M s) (r : ℕ) (p : r < length M.rhs) where
-  ended_good : (row : Row) (old act : Activity) (w : Work) → Inv M k w → row.alive ≡ true → RowInv M r row → Good M k r (ended M r row old act w)
+  ended_good : (row : Row) (old act : Activity) (w : Work) → Inv M k w → row.alive ≡ true → RowInv M r row → RewritingInv M k r (ended M r row old act w)
   ended_good row old act w i a n =
-      either (Good M k r) (gives_back row)
+      either (RewritingInv M k r) (gives_back row)
       (λ e.
       let g = given_kept c r p w row e in
       let b = g.alive a in
@@ -70,10 +70,10 @@ module _ {M : Model} {s : Context} {k : ℕ} (c : Call M s) (r : ℕ) (p : r < l
       (λ e. record { inv = inv_rewrote w i; alive = a; row = touched_inv row n })
 
   module _ (f : Form) (nz : Float) where
-    pub step_good : (i : ℕ) (x : Rewriting) → (x.broke ≡ false → i < length x.row.terms) → Good M k r x → Good M k r (rewrite_step M f nz r i x)
+    pub step_good : (i : ℕ) (x : Rewriting) → (x.broke ≡ false → i < length x.row.terms) → RewritingInv M k r x → RewritingInv M k r (rewrite_step M f nz r i x)
     step_good i x l g =
-        subst (Good M k r) (sym (step_is M f nz r i x))
-        (either (Good M k r) (x.broke || eqb (rewrites (rewrite_here M f nz i x)) 0) (λ e. g)
+        subst (RewritingInv M k r) (sym (step_is M f nz r i x))
+        (either (RewritingInv M k r) (x.broke || eqb (rewrites (rewrite_here M f nz i x)) 0) (λ e. g)
         (λ e.
         let t = term_here i x in
         let y = rewrite_here M f nz i x in
@@ -110,7 +110,7 @@ module _ (M : Model) (f : Form) (nz : Float) (r : ℕ) where
   loop_broke (suc n) i x e = ap (rewrite_loop M n f nz r (suc i)) (step_broke i x e) ∙ loop_broke n (suc i) x e
 
 module _ {M : Model} {s : Context} {k : ℕ} (c : Call M s) (r : ℕ) (p : r < length M.rhs) (f : Form) (nz : Float) where
-  pub loop_good : (n i : ℕ) (x : Rewriting) → (x.broke ≡ false → i + n ≤ length x.row.terms) → Good M k r x → Good M k r (rewrite_loop M n f nz r i x)
+  pub loop_good : (n i : ℕ) (x : Rewriting) → (x.broke ≡ false → i + n ≤ length x.row.terms) → RewritingInv M k r x → RewritingInv M k r (rewrite_loop M n f nz r i x)
   unfolding rewrite_loop
   loop_good zero i x l g = g
   loop_good (suc n) i x l g =

@@ -18,7 +18,7 @@ use Rattle.readers.specs.Reading.{row_of, Alive}
 use Rattle.readers.specs.RowAt.{row_shown, row_alive, row_inv, alive_of}
 use Rattle.tighten.specs.Over.{loop_over, shown, closed, stored_is, shown_over}
 use Rattle.tighten.specs.Carried.{Progress, progress_of, carried, Carries}
-use Rattle.tighten.specs.Keeping.{Good, good_shown, step_good, step_length, loop_broke}
+use Rattle.tighten.specs.Keeping.{RewritingInv, good_shown, step_good, step_length, loop_broke}
 use Rattle.tighten.specs.Step.{step_at}
 
 -- ---- the definition's loop, term by term
@@ -91,7 +91,7 @@ module _ {P : Model → Type 0} {s : Context} {form : Form} {nz : Float} {r len 
       abbrev after : Rewriting
       after = step_at form nz r i x M w
 
-      good : Good M k r after
+      good : RewritingInv M k r after
       good =
           step_good c r (omega (arith, p, c.rows)) form nz i (carried r x w) (λ _. omega (arith, l, A.long, (row_shown c h p A.live).len))
           (record { inv = j; alive = row_alive c h p A.live; row = row_inv c h p A.live j })

@@ -21,7 +21,7 @@ use Rattle.readers.specs.Reading.{row_of, Alive}
 use Rattle.readers.specs.RowAt.{row_alive, row_inv, alive_of}
 use Rattle.folds.specs.Apart.{elsewhere, untouched, outside, other_shown}
 use Rattle.folds.specs.Stands.{Standing, Turns, turns_acts, tells_reads, standing}
-use Rattle.folds.specs.Holding.{Holds}
+use Rattle.folds.specs.Holding.{HoldsRow}
 use Rattle.rewrites.specs.Staying.{row_again}
 use Rattle.tighten.specs.Over.{back, on, ended, queued_rows, shown}
 use Rattle.tighten.specs.Carried.{progress_of, Carries}
@@ -126,7 +126,7 @@ abbrev pub ended_at : ℕ → Activity → Activity → Model → Work → Rewri
 ended_at r old act M w = ended M r (row_of w r) old act (queued r w)
 
 module _ {P : Model → Type 0} {s : Context} (r : ℕ) {f f₂ : Floats} {n n₁ n₂ : Numbers} {z : Bool} (p : r < s.rows) (a : Alive n r)
-    (q : ActsN Any s n n₁ (λ M. queued r)) (H : Holds P s r f n₁ f₂ n₂ z) (old act : Activity) where
+    (q : ActsN Any s n n₁ (λ M. queued r)) (H : HoldsRow P s r f n₁ f₂ n₂ z) (old act : Activity) where
   module _ (M : Model) (o : List ℕ) (k : ℕ) (w : Work) (m : P M) (c : Call M s) (h : Shows M f n o w) (i : Inv M k w) where
     same_row : row_of (queued r w) r ≡ row_of w r
     same_row = ap (λ (l : List Row). get_or l r no_row) (queued_rows r w)

@@ -94,8 +94,8 @@ margin r x a hx = go (lt h x) refl
     ph : NonNeg (½f ⊗ r)
     ph = product_nonneg ½f r half_parts.num nr (pos_parts ½f (2 ^ 1073) half_parts) (tol_least a)
 
-    held_r : K.Held (pos (P (units r)))
-    held_r = subst K.Held (rank_num r nr ∙ only (units r) (tol_least a)) (held_of r (tol_real a))
+    held_r : K.HeldRank (pos (P (units r)))
+    held_r = subst K.HeldRank (rank_num r nr ∙ only (units r) (tol_least a)) (held_of r (tol_real a))
       where
         only : (z : ℤ) → pos 0 ⊑ z → z ≡ pos (P z)
         only z h = Rattle.floats.specs.Zed.ext z (pos (P z)) (omega (arith, side z))
@@ -139,7 +139,7 @@ budget {t} {m} n h a b o =
     let nr = tol_num R in
     tol_of (sub_result r s nr M.num).real
     (sub_above r s nr M.num (pos 0) zero_held (not_below (units r) (units s) M.high))
-    (link (rank (r ⊖ s)) (units r) (pos (3 * 2 ^ 1071)) (sub_below r s nr M.num (units r) (subst K.Held (rank_num r nr) (held_of r (tol_real R)))
+    (link (rank (r ⊖ s)) (units r) (pos (3 * 2 ^ 1071)) (sub_below r s nr M.num (units r) (subst K.HeldRank (rank_num r nr) (held_of r (tol_real R)))
     (smaller (units r) (units s) M.low)) (tol_most R))
   where
     not_below : (u v : ℤ) → v ⊑ u → pos 0 ⊑ u -ℤ v

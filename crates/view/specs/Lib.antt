@@ -8,6 +8,8 @@ pub mod Marks
 pub mod Adjacency
 pub mod Bounds
 pub mod Steps
+pub mod Renamed
 pub mod Changes
 pub mod Known
 pub mod Rows
+pub mod Settled

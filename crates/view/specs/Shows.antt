@@ -23,7 +23,7 @@ pub record Tally : Type 0 where
 abbrev pub tally_of : Numbers → Tally
 tally_of n = record { dropped = n.dropped; tightened = n.tightened; fixed = n.fixed; rewrote = n.rewrote; passes = n.passes }
 
-pub record Counted (n : Tally) (k : Counts) : Type 0 where
+pub record CountsShown (n : Tally) (k : Counts) : Type 0 where
   pub dropped : get_or n.dropped 0 0 ≡ k.rowsDropped % 2 ^ 64
   pub tightened : get_or n.tightened 0 0 ≡ k.boundsTightened % 2 ^ 64
   pub fixed : get_or n.fixed 0 0 ≡ k.varsFixed % 2 ^ 64
@@ -107,7 +107,7 @@ pub record Shows (M : Model) (f : Floats) (n : Numbers) (o : List ℕ) (w : Work
   pub coeff_dirty : map is_one n.coeff_dirty ≡ w.coeff_dirty
   pub queued : get_or n.queued 0 0 ≡ length w.queue
   pub queue : take (get_or n.queued 0 0) n.queue ≡ w.queue
-  pub counts : Counted (tally_of n) w.counts
+  pub counts : CountsShown (tally_of n) w.counts
   pub wave : n.wave ≡ o
   pub alive : (r : ℕ) → r < length M.rhs → is_one (get_or n.alive r 0) ≡ (get_or w.rows r no_row).alive
   pub rows : (r : ℕ) → r < length M.rhs → (get_or w.rows r no_row).alive ≡ true → RowShown M (parts_of f n) r (get_or w.rows r no_row)
@@ -118,5 +118,5 @@ Outcome = Result ⊤ Infeasible
 
 -- a step that may stop: then only the counts are shown
 pub data StepShown (M : Model) (f : Floats) (n : Numbers) (o : List ℕ) : Outcome → Step → Type 0 where
-  stopped : {e : Infeasible} {k : Counts} → Counted (tally_of n) k → StepShown M f n o (Err e) (stop k)
+  stopped : {e : Infeasible} {k : Counts} → CountsShown (tally_of n) k → StepShown M f n o (Err e) (stop k)
   went : {w : Work} → Shows M f n o w → StepShown M f n o (Ok tt) (next w)

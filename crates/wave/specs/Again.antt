@@ -15,8 +15,8 @@ use Rattle.view.specs.Lists.{yes, no, either}
 use Rattle.view.specs.Acts.{Ready, Any}
 use Rattle.view.specs.Steps.{InvStep, goes, KeepsStep, went_is}
 use Rattle.view.specs.Bounds.{went_by}
-use Rattle.rows.specs.Steps.{stopped_then, inv_next, inv_then}
-use Rattle.rows.specs.Loop.{Onward}
+use Rattle.view.specs.Renamed.{stopped_then, inv_next, inv_then}
+use Rattle.bounds.specs.Loop.{Onward}
 use Rattle.wave.specs.Begin.{Waves, wave_keeps, wave_passes}
 
 abbrev pub left_of : Model → Work → ℕ

@@ -12,8 +12,8 @@ use Rattle.view.specs.Inv.{Inv, Below}
 use Rattle.view.specs.Lists.{marked_le}
 use Rattle.view.specs.Acts.{Ready}
 use Rattle.view.specs.Steps.{KeepsStep, went_is}
-use Rattle.rows.specs.Same.{same_next}
-use Rattle.rows.specs.Steps.{inv_next}
+use Rattle.bounds.specs.Same.{same_next}
+use Rattle.view.specs.Renamed.{inv_next}
 use Rattle.wave.specs.Rows.{ReadyWave, TriesWave, inv_rows, passes_rows}
 
 abbrev with_wave : List ℕ → Numbers → Numbers
@@ -42,15 +42,15 @@ with_wave o f = record {
 }
 
 -- ---- copy_queue
-pub record Copied (n n' : Numbers) (cnt : ℕ) : Type 0 where
+pub record QueueCopied (n n' : Numbers) (cnt : ℕ) : Type 0 where
   pub same : n' ≡ with_wave n'.wave n
   pub taken : take cnt n'.wave ≡ take cnt n.queue
 
-pub copied_start : {n : Numbers} → Copied n n 0
+pub copied_start : {n : Numbers} → QueueCopied n n 0
 copied_start = record { same = refl; taken = refl }
 
-pub copied_turn : {n₀ n n₁ : Numbers} {m cnt i r : ℕ} → Copied n₀ n i → length n.wave ≡ m → length n₀.queue ≡ m → cnt ≤ m → i < cnt
-    → r ≡ get_or n.queue i 0 → n₁ ≡ put_wave i r n → Copied n₀ n₁ (i + 1)
+pub copied_turn : {n₀ n n₁ : Numbers} {m cnt i r : ℕ} → QueueCopied n₀ n i → length n.wave ≡ m → length n₀.queue ≡ m → cnt ≤ m → i < cnt
+    → r ≡ get_or n.queue i 0 → n₁ ≡ put_wave i r n → QueueCopied n₀ n₁ (i + 1)
 copied_turn {n₀} {n} {n₁} {m} {cnt} {i} {r} C lw lq lc il er e =
     let ew : n₁.wave ≡ set n.wave i r = ap (λ (x : Numbers). x.wave) e in
     let eq : n.queue ≡ n₀.queue = ap (λ (x : Numbers). x.queue) C.same in
@@ -65,8 +65,8 @@ copied_turn {n₀} {n} {n₁} {m} {cnt} {i} {r} C lw lq lc il er e =
           ∙ sym (take-suc n₀.queue i 0 (omega (arith, lq, lc, il))));
     }
 
-pub copied_end : {n₀ n : Numbers} {cnt i : ℕ} → Copied n₀ n i → i ≤ cnt → cnt ≤ i → Copied n₀ n cnt
-copied_end {n₀} {n} C p q = subst (Copied n₀ n) (omega (arith, p, q)) C
+pub copied_end : {n₀ n : Numbers} {cnt i : ℕ} → QueueCopied n₀ n i → i ≤ cnt → cnt ≤ i → QueueCopied n₀ n cnt
+copied_end {n₀} {n} C p q = subst (QueueCopied n₀ n) (omega (arith, p, q)) C
 
 -- ---- primal_wave: the block of the wave's rows is another after it
 pub record Afresh (M : Model) (f : Floats) (n : Numbers) (z : Outcome) (y : Step) : Type 0 where
@@ -117,14 +117,14 @@ queue_fits {w = w} c i = omega (arith, i.room, marked_le w.dirty, i.dirties, c.r
 pub queued_fits : {P : Model → Type 0} {s : Context} {f : Floats} {n : Numbers} {cnt : ℕ} → Ready P s f n → cnt ≡ get_or n.queued 0 0 → cnt ≤ s.rows
 queued_fits R e = omega (arith, e, R.shows.queued, queue_fits R.call R.inv)
 
-pub passes_small : {n n₁ n₂ : Numbers} {cnt p : ℕ} → Copied n n₁ cnt → n₂ ≡ put_queued 0 0 n₁ → p ≡ get_or n₂.passes 0 0 → get_or n.passes 0 0 < 30 → p < 30
+pub passes_small : {n n₁ n₂ : Numbers} {cnt p : ℕ} → QueueCopied n n₁ cnt → n₂ ≡ put_queued 0 0 n₁ → p ≡ get_or n₂.passes 0 0 → get_or n.passes 0 0 < 30 → p < 30
 passes_small {n} {p = p} C e₂ ep h =
     let b : p ≡ get_or n.passes 0 0 = ep ∙ ap (λ (x : Numbers). get_or x.passes 0 0) (e₂ ∙ ap (put_queued 0 0) C.same) in
     omega (arith, b, h)
 
 -- the state with which the wave's rows begin
 module _ {f : Floats} {n n₁ n₂ n₃ : Numbers} {cnt p : ℕ} (lq : length n.queued ≡ 1) (lp : length n.passes ≡ 1) (ec : cnt ≡ get_or n.queued 0 0)
-    (C : Copied n n₁ cnt) (e₂ : n₂ ≡ put_queued 0 0 n₁) (ep : p ≡ get_or n₂.passes 0 0) (e₃ : n₃ ≡ put_passes 0 (p + 1) n₂) where
+    (C : QueueCopied n n₁ cnt) (e₂ : n₂ ≡ put_queued 0 0 n₁) (ep : p ≡ get_or n₂.passes 0 0) (e₃ : n₃ ≡ put_passes 0 (p + 1) n₂) where
   shows_begun : {M : Model} {o : List ℕ} {w : Work} → Shows M f n o w → Shows M f n₃ n₁.wave (begun w)
   shows_begun {w = w} h =
       let b : p ≡ get_or n.passes 0 0 = ep ∙ ap (λ (x : Numbers). get_or x.passes 0 0) (e₂ ∙ ap (put_queued 0 0) C.same) in
@@ -147,11 +147,11 @@ module _ {f : Floats} {n n₁ n₂ n₃ : Numbers} {cnt p : ℕ} (lq : length n.
         rows = h.rows;
       })
 
-rows_are_lem : {M : Model} {f : Floats} {n n₁ : Numbers} {o : List ℕ} {w : Work} {cnt : ℕ} → cnt ≡ get_or n.queued 0 0 → Copied n n₁ cnt → Shows M f n o w → take cnt n₁.wave ≡ w.queue
+rows_are_lem : {M : Model} {f : Floats} {n n₁ : Numbers} {o : List ℕ} {w : Work} {cnt : ℕ} → cnt ≡ get_or n.queued 0 0 → QueueCopied n n₁ cnt → Shows M f n o w → take cnt n₁.wave ≡ w.queue
 rows_are_lem {n = n} ec C h = C.taken ∙ ap (λ (j : ℕ). take j n.queue) ec ∙ h.queue
 
 module _ {P : Model → Type 0} {s : Context} {f : Floats} {n n₁ n₂ n₃ : Numbers} {cnt p : ℕ} (lq : length n.queued ≡ 1) (lp : length n.passes ≡ 1)
-    (ec : cnt ≡ get_or n.queued 0 0) (C : Copied n n₁ cnt) (e₂ : n₂ ≡ put_queued 0 0 n₁) (ep : p ≡ get_or n₂.passes 0 0)
+    (ec : cnt ≡ get_or n.queued 0 0) (C : QueueCopied n n₁ cnt) (e₂ : n₂ ≡ put_queued 0 0 n₁) (ep : p ≡ get_or n₂.passes 0 0)
     (e₃ : n₃ ≡ put_passes 0 (p + 1) n₂) where
   pub ready_wave : Ready P s f n → ReadyWave P s f n₃ cnt
   ready_wave R =

@@ -19,7 +19,7 @@ use Rattle.view.specs.Bounds.{went_by}
 use Rattle.view.specs.Rows.{row_now}
 use Rattle.readers.specs.Reading.{row_of, Alive}
 use Rattle.readers.specs.RowAt.{row_alive, alive_of}
-use Rattle.rows.specs.Same.{passes_of, Leaves, same, same_after}
+use Rattle.bounds.specs.Same.{passes_of, Leaves, same, same_after}
 use Rattle.folds.specs.Stands.{Turns, turns_acts}
 use Rattle.folds.specs.Kept.{fold_fixed_kept, fold_fixed_keeps}
 use Rattle.several.specs.ByCount.{inv_count, passes_count}

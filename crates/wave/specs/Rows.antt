@@ -13,9 +13,9 @@ use Rattle.view.specs.Inv.{Inv, Below}
 use Rattle.view.specs.Acts.{Ready}
 use Rattle.view.specs.Steps.{InvStep, goes, went_is}
 use Rattle.view.specs.Bounds.{went_by}
-use Rattle.rows.specs.Steps.{stopped_then, inv_next, inv_then}
-use Rattle.rows.specs.Same.{passes_of, Leaves, same, same_then}
-use Rattle.rows.specs.Loop.{Onward}
+use Rattle.view.specs.Renamed.{stopped_then, inv_next, inv_then}
+use Rattle.bounds.specs.Same.{passes_of, Leaves, same, same_then}
+use Rattle.bounds.specs.Loop.{Onward}
 use Rattle.wave.specs.Row.{ReadyRow, TriesRow, inv_wave_row, passes_row}
 
 -- what the loop asks: the first cnt rows of the wave's block are rows, and still to come

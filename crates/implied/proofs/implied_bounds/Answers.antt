@@ -1,9 +1,9 @@
 -- `implied_bounds` is implied_bounds, of the row that stands in the state.
 use native.Mathlib.Omega.{arith}
 use Rattle.std.proofs.lemmas.Result.{err_from_is_err_and}
-use Rattle.rows.specs.Knowing.{moves_spans, span_at}
-use Rattle.rows.specs.Steps.{tries_is}
-use Rattle.rows.specs.Loop.{turning_ready, still_place, still_small, still_var}
+use Rattle.readers.specs.Knowing.{moves_spans, span_at}
+use Rattle.view.specs.Renamed.{tries_is}
+use Rattle.bounds.specs.Loop.{turning_ready, still_place, still_small, still_var}
 use Rattle.implied.specs.Loop.{implying_rows, implying_turn, implying_stop, implying_end}
 use borrow.Author.Rules.{rules}
 use Rattle.implied.proofs.implied_bounds.Goals as goal

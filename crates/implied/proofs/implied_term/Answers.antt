@@ -1,7 +1,7 @@
 -- `implied_term`: both halves are quiet, or they are gone through.
 use Rattle.std.proofs.lemmas.Result.{err_from_is_err_and}
 use Rattle.view.specs.Steps.{ready_went}
-use Rattle.rows.specs.Steps.{tries_is}
+use Rattle.view.specs.Renamed.{tries_is}
 use Rattle.implied.specs.Sides.{side_keeps, term_then, term_stop, term_quiet}
 use Rattle.implied.proofs.implied_term.Goals as goal
 

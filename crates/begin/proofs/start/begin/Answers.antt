@@ -22,5 +22,5 @@ read_rows-requires-clause-holds_f c = (omega arith, omega arith, cleared_now _ c
 
 pub returns : goal.returns
 returns c = begin_rows c.crossed.ensures (cleared_now _ c.requires.holds_f.1 c.clear.ensures) c.if-crossed.false c.round_vars.ensures
-    (ap is_ok c.in_ok-round_vars.was) (four_long _ (omega arith)) c.adjacency.ensures
+    (ap is_ok c.in_ok-round_vars.was) (four_long _ (omega arith)) c.fill_adjacency.ensures
     c.read_rows.ensures (rows_long _ (omega arith))

@@ -2,8 +2,8 @@
 use borrow.Author.Rules.{rules}
 use native.Mathlib.Omega.{arith}
 use Rattle.view.specs.Steps.{ready_under, acts_under}
-use Rattle.rows.specs.Knowing.{marks_spans, marks_adj}
-use Rattle.rows.specs.Loop.{turning_ready, still_place, still_small, still_var}
+use Rattle.readers.specs.Knowing.{marks_spans, marks_adj}
+use Rattle.bounds.specs.Loop.{turning_ready, still_place, still_small, still_var}
 use Rattle.forcing.specs.Fixing.{fixing_rows, fixing_turn, fixing_end}
 use Rattle.forcing.proofs.fixing.fix_all.Goals as goal
 

@@ -1,5 +1,5 @@
 -- `forces` is forces_min or forces_max.
-use Rattle.rows.specs.Knowing.{looks_spans, span_at}
+use Rattle.readers.specs.Knowing.{looks_spans, span_at}
 use Rattle.forcing.specs.Forced.{at_min, at_max, min_not, min_at, max_not, max_at}
 use Rattle.forcing.proofs.tests.forces.Goals as goal
 

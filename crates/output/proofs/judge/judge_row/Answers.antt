@@ -1,6 +1,7 @@
 -- `judge_row`, by its ways.
 use Rattle.space.specs.Blocks.{fate_length}
-use Rattle.emit.specs.Judging.{written_gives, ready_trivial, judge_trivial, judge_gone, judge_untouched}
+use Rattle.readers.specs.Trivial.{written_gives, ready_trivial}
+use Rattle.emit.specs.Judging.{judge_trivial, judge_gone, judge_untouched}
 use Rattle.output.specs.Judged.{told-as}
 use borrow.Author.Rules.{rules}
 use Rattle.output.proofs.judge.judge_row.Goals as goal

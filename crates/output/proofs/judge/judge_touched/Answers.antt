@@ -1,7 +1,8 @@
 -- `judge_touched`, by whether the bound is finite.
 use mathlib.Core.Path.{refl, sym, ◌∙◌}
 use Rattle.space.specs.Blocks.{fate_length, bound_length}
-use Rattle.emit.specs.Judging.{written_gives, judge_infinite, judge_finite}
+use Rattle.readers.specs.Trivial.{written_gives}
+use Rattle.emit.specs.Judging.{judge_infinite, judge_finite}
 use Rattle.output.proofs.judge.judge_touched.Goals as goal
 
 pub returns-then-is_finite : goal.returns-then-is_finite

@@ -10,11 +10,11 @@ bounds-starts-r c = omega (arith, term_long c.requires.ready_term c.requires.r_l
 pub bounds-starts-r-2 : goal.bounds-starts-r-2
 bounds-starts-r-2 c = search (term_long, rules)
 
-pub loop-s-init : goal.loop-s-init
-loop-s-init c = search seek_start
+pub loop-cx-init : goal.loop-cx-init
+loop-cx-init c = search seek_start
 
 pub place-i-requires : goal.place-i-requires
-place-i-requires c = seek_fits c.requires.r_lt_rows.0 c.requires.r_lt_rows.3 c.loop-s.invariant c.get-n.ensures
+place-i-requires c = seek_fits c.requires.r_lt_rows.0 c.requires.r_lt_rows.3 c.loop-cx.invariant c.get-n.ensures
 
 pub get-requires : goal.get-requires
 get-requires c = search (seek_place, rules)
@@ -25,19 +25,19 @@ get-x-requires c = search (seek_place, rules)
 pub overflow_add-k : goal.overflow_add-k
 overflow_add-k c = omega (
   arith,
-  seek_fits c.requires.r_lt_rows.0 c.requires.r_lt_rows.3 c.loop-s.invariant c.get-n.ensures,
-  (seek_row c.requires.r_lt_rows.0 c.requires.r_lt_rows.3 c.loop-s.invariant).last,
-  (seek_row c.requires.r_lt_rows.0 c.requires.r_lt_rows.3 c.loop-s.invariant).small,
+  seek_fits c.requires.r_lt_rows.0 c.requires.r_lt_rows.3 c.loop-cx.invariant c.get-n.ensures,
+  (seek_row c.requires.r_lt_rows.0 c.requires.r_lt_rows.3 c.loop-cx.invariant).last,
+  (seek_row c.requires.r_lt_rows.0 c.requires.r_lt_rows.3 c.loop-cx.invariant).small,
 )
 
-pub loop-s-smaller : goal.loop-s-smaller
-loop-s-smaller c = omega (arith, seek_in c.requires.r_lt_rows.0 c.requires.r_lt_rows.3 c.loop-s.invariant)
+pub loop-cx-smaller : goal.loop-cx-smaller
+loop-cx-smaller c = omega (arith, seek_in c.requires.r_lt_rows.0 c.requires.r_lt_rows.3 c.loop-cx.invariant)
 
-pub loop-s-preserved : goal.loop-s-preserved
-loop-s-preserved c = seek_turn c.requires.r_lt_rows.0 c.requires.r_lt_rows.3 c.loop-s.invariant
+pub loop-cx-preserved : goal.loop-cx-preserved
+loop-cx-preserved c = seek_turn c.requires.r_lt_rows.0 c.requires.r_lt_rows.3 c.loop-cx.invariant
     c.get-n.ensures c.place-i.ensures c.get.ensures c.if-get-v.false
 
 pub returns : goal.returns
-returns c = seek_end c.requires.r_lt_rows.0 c.requires.r_lt_rows.3 c.loop-s.invariant
+returns c = seek_end c.requires.r_lt_rows.0 c.requires.r_lt_rows.3 c.loop-cx.invariant
     c.get-n.ensures c.place-i.ensures c.get.ensures
     c.if-get-v.true c.get-x.ensures

@@ -1,8 +1,8 @@
 -- `several_terms` is several_terms.
 use Rattle.std.proofs.Common.{sym}
 use Rattle.view.specs.Steps.{ready_under, stop_is}
-use Rattle.rows.specs.Knowing.{moves_spans, moves_looks, moves_marks, span_at}
-use Rattle.rows.specs.Steps.{tries_is}
+use Rattle.readers.specs.Knowing.{moves_spans, moves_looks, moves_marks, span_at}
+use Rattle.view.specs.Renamed.{tries_is}
 use Rattle.several.specs.Several.{several_stop, several_min, several_max, several_drop, several_implied}
 use Rattle.several.proofs.several.several_terms.Goals as goal
 

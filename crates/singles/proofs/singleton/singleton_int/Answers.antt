@@ -1,6 +1,6 @@
 -- `singleton_int` is singleton_int.
 use Rattle.view.specs.Steps.{ready_under}
-use Rattle.rows.specs.Knowing.{marks_spans, marks_adj, span_at}
+use Rattle.readers.specs.Knowing.{marks_spans, marks_adj, span_at}
 use Rattle.singles.specs.Singleton.{int_stop, int_emit}
 use Rattle.singles.proofs.singleton.singleton_int.Goals as goal
 

@@ -1,2 +1,0 @@
--- The last look at the rows.
-pub mod Settling

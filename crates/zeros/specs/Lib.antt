@@ -1,2 +1,0 @@
--- What clearing a slice leaves.
-pub mod Fill
