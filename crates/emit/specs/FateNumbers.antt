@@ -9,59 +9,59 @@ use Rattle.std.proofs.Math.ListN.{get_or}
 use borrow.Author.Tests.{ne_eqb, lt-ltb}
 use Rattle.row_terms.specs.RowMark.{mark}
 use Rattle.emit.specs.declared.fates.Fate.{Fate}
-use Rattle.emit.specs.declared.fates.Fate.TheVariants.{Trivial, Dropped, Written, Rewritten}
-use Rattle.emit.specs.Fates.{is_kept, is_out, is_rewritten, kept_at, out_at, rewritten_at, mark_at}
+use Rattle.emit.specs.declared.fates.Fate.TheVariants.{Trivial, Written, Rewritten, Dropped}
+use Rattle.emit.specs.Fates.{TRIVIAL, WRITTEN, REWRITTEN, DROPPED, is_kept, is_out, is_rewritten, kept_at, out_at, rewritten_at, mark_at}
 
 abbrev pub fate_is : ℕ → Fate
 fate_is zero = Trivial
-fate_is (suc zero) = Dropped
-fate_is (suc (suc zero)) = Written
-fate_is (suc (suc (suc n))) = Rewritten
+fate_is (suc zero) = Written
+fate_is (suc (suc zero)) = Rewritten
+fate_is (suc (suc (suc n))) = Dropped
 
 abbrev pub number_of : Fate → ℕ
-number_of Trivial = 0
-number_of Dropped = 1
-number_of Written = 2
-number_of Rewritten = 3
+number_of Trivial = TRIVIAL
+number_of Written = WRITTEN
+number_of Rewritten = REWRITTEN
+number_of Dropped = DROPPED
 
 abbrev pub keeps : Fate → Bool
 keeps Trivial = false
-keeps Dropped = true
 keeps Written = false
 keeps Rewritten = true
+keeps Dropped = true
 
 abbrev pub emits : Fate → Bool
 emits Trivial = false
-emits Dropped = false
 emits Written = true
 emits Rewritten = true
+emits Dropped = false
 
 abbrev pub rewrites : Fate → Bool
 rewrites Trivial = false
-rewrites Dropped = false
 rewrites Written = false
 rewrites Rewritten = true
+rewrites Dropped = false
 
 keeps_is : (n : ℕ) → keeps (fate_is n) ≡ is_kept n
 unfolding is_kept
 keeps_is zero = refl
 keeps_is (suc zero) = refl
 keeps_is (suc (suc zero)) = refl
-keeps_is (suc (suc (suc n))) = rw (ne_eqb (suc (suc (suc n))) 1 (λ e. omega (arith, e)), lt-ltb 2 (suc (suc (suc n))) (omega arith))
+keeps_is (suc (suc (suc n))) = sym (lt-ltb 1 (suc (suc (suc n))) (omega arith))
 
 emits_is : (n : ℕ) → emits (fate_is n) ≡ is_out n
 unfolding is_out
 emits_is zero = refl
 emits_is (suc zero) = refl
 emits_is (suc (suc zero)) = refl
-emits_is (suc (suc (suc n))) = sym (lt-ltb 1 (suc (suc (suc n))) (omega arith))
+emits_is (suc (suc (suc n))) = rw (ne_eqb (suc (suc (suc n))) 1 (λ e. omega (arith, e)), ne_eqb (suc (suc (suc n))) 2 (λ e. omega (arith, e)))
 
 rewrites_is : (n : ℕ) → rewrites (fate_is n) ≡ is_rewritten n
 unfolding is_rewritten
 rewrites_is zero = refl
 rewrites_is (suc zero) = refl
 rewrites_is (suc (suc zero)) = refl
-rewrites_is (suc (suc (suc n))) = sym (lt-ltb 2 (suc (suc (suc n))) (omega arith))
+rewrites_is (suc (suc (suc n))) = sym (ne_eqb (suc (suc (suc n))) 2 (λ e. omega (arith, e)))
 
 -- the mark, as a number of whether it is rewritten
 pub mark_from : {b c : Bool} {m : ℕ} → b ≡ c → m ≡ from_bool b → m ≡ mark c

@@ -1,4 +1,4 @@
--- A row's fate as a number: 0 trivially true, 1 dropped and kept for validation, 2 emitted as written, 3 emitted rewritten and kept.
+-- A row's fate as a number, by 02's numbers: 0 trivially true, 1 emitted as written, 2 emitted rewritten and kept for validation, 3 dropped and kept.
 -- And what goes out, list by list, by the fates.
 use Prim.Native.Nat.{ℕ, zero, suc, ◌+◌, ◌≤◌, ◌<◌}
 use Rattle.std.proofs.Common.{arith, ◌∙◌, length-append}
@@ -8,7 +8,6 @@ use Rattle.std.proofs.Math.Bool.{true, false}
 use mathlib.Core.List.{List, [], ◌∷◌, ◌++◌, map}
 use Rattle.std.proofs.Math.Dec.{ltb}
 use Rattle.std.proofs.Math.ListN.{length}
-use borrow.Author.Tests.{ne_eqb, lt-ltb}
 use Rattle.floats.specs.Num.{choose, is_finite}
 use Rattle.tolerances.specs.Tol.{Term, at}
 use Rattle.definition.specs.Model.{Model, from, upto, rhs_of, Row, Emit}
@@ -19,48 +18,44 @@ use Rattle.view.specs.Lists.{yes, no, either}
 use Rattle.view.specs.Settled.{out_settled, out_of}
 use Rattle.row_terms.specs.RowMark.{mark}
 
+abbrev pub TRIVIAL : ℕ
+TRIVIAL = 0
+
+abbrev pub WRITTEN : ℕ
+WRITTEN = 1
+
+abbrev pub REWRITTEN : ℕ
+REWRITTEN = 2
+
+abbrev pub DROPPED : ℕ
+DROPPED = 3
+
 unfoldable pub is_kept : ℕ → Bool
-is_kept c = eqb c 1 || ltb 2 c
+is_kept c = ltb WRITTEN c
 
 unfoldable pub is_out : ℕ → Bool
-is_out c = ltb 1 c
+is_out c = eqb c WRITTEN || eqb c REWRITTEN
 
 unfoldable pub is_rewritten : ℕ → Bool
-is_rewritten c = ltb 2 c
-
-pub kept_one : {c : ℕ} → c ≡ 1 → true ≡ is_kept c
-unfolding is_kept
-kept_one e = rw e
-
-pub kept_other : {c : ℕ} → (c ≡ 1 → ⊥) → ltb 2 c ≡ is_kept c
-unfolding is_kept
-kept_other {c} ne = rw (ne_eqb c 1 ne)
-
-pub out_is : (c : ℕ) → ltb 1 c ≡ is_out c
-unfolding is_out
-out_is c = refl
-
-pub rewritten_is : (c : ℕ) → ltb 2 c ≡ is_rewritten c
-unfolding is_rewritten
-rewritten_is c = refl
+is_rewritten c = eqb c REWRITTEN
 
 module _ (M : Model) (r : ℕ) where
   -- of a settled row
   unfoldable pub fate_of : Row → ℕ
   fate_of row =
-      choose (trivial M r) 0
-      (choose row.alive (choose row.touched (choose (is_finite (rewritten_bound M row r)) 3 2) 2) 1)
+      choose (trivial M r) TRIVIAL
+      (choose row.alive (choose row.touched (choose (is_finite (rewritten_bound M row r)) REWRITTEN WRITTEN) WRITTEN) DROPPED)
 
   -- what a fate adds
   unfoldable pub out_by : ℕ → Float → Row → Out → Out
   out_by zero b row o = o
-  out_by (suc zero) b row o = keep_row r o
-  out_by (suc (suc zero)) b row o = emit_written M r o
-  out_by (suc (suc (suc c))) b row o = emit_rewritten M r b (sort_terms (row.terms ++ row.folded)) o
+  out_by (suc zero) b row o = emit_written M r o
+  out_by (suc (suc zero)) b row o = emit_rewritten M r b (sort_terms (row.terms ++ row.folded)) o
+  out_by (suc (suc (suc c))) b row o = keep_row r o
 
   by_tests : (t a u f : Bool) (b : Float) (row : Row) (o : Out)
       → choose t o (choose a (choose u (choose f (emit_rewritten M r b (sort_terms (row.terms ++ row.folded)) o) (emit_written M r o)) (emit_written M r o)) (keep_row r o))
-      ≡ out_by (choose t 0 (choose a (choose u (choose f 3 2) 2) 1)) b row o
+      ≡ out_by (choose t TRIVIAL (choose a (choose u (choose f REWRITTEN WRITTEN) WRITTEN) DROPPED)) b row o
   unfolding choose out_by
   by_tests true a u f b row o = refl
   by_tests false false u f b row o = refl
@@ -86,8 +81,8 @@ by_bound : (M : Model) (r c : ℕ) (b d : Float) (row : Row) (o : Out) → (is_r
 unfolding out_by is_rewritten
 by_bound M r zero b d row o h = refl
 by_bound M r (suc zero) b d row o h = refl
-by_bound M r (suc (suc zero)) b d row o h = refl
-by_bound M r (suc (suc (suc c))) b d row o h = rw (h (lt-ltb 2 (suc (suc (suc c))) (omega arith)))
+by_bound M r (suc (suc zero)) b d row o h = rw (h refl)
+by_bound M r (suc (suc (suc c))) b d row o h = refl
 
 pub out_fates_lem : (M : Model) (cs : List ℕ) (bs : List Float) (rows : List Row) (n : ℕ) → Fates M cs bs rows n → out_of M rows n ≡ out_fates M cs bs rows n
 unfolding out_of out_fates

@@ -25,7 +25,7 @@ use Rattle.view.specs.Rows.{same?}
 use Rattle.readers.specs.Reading.{row_of}
 use Rattle.readers.specs.RowAt.{row_alive, row_shown}
 use Rattle.readers.specs.Trivial.{TellsTrivial}
-use Rattle.emit.specs.Fates.{is_rewritten, fate_of, Fates}
+use Rattle.emit.specs.Fates.{TRIVIAL, WRITTEN, REWRITTEN, DROPPED, is_rewritten, fate_of, Fates}
 
 -- ---- the blocks of fates and bounds, which show nothing
 abbrev pub with_fate : List ℕ → Numbers → Numbers
@@ -170,47 +170,47 @@ module _ {P : Model → Type 0} (s : Context) (f : Floats) (n n' : Numbers) (r :
     trivial_is : (M : Model) → P M → Call M s → trivial M r ≡ z
     trivial_is M x y = let a = known M x in T.tells M a.0 a.1 a.2 y
 
-    pub judge_trivial : z ≡ true → n' ≡ put_fate r 0 n → JudgedRow P s f n f n' r
+    pub judge_trivial : z ≡ true → n' ≡ put_fate r TRIVIAL n → JudgedRow P s f n f n' r
     unfolding fate_of is_rewritten
-    judge_trivial t e = judge 0 refl e (λ M o k w x y g i. yes _ _ (trivial_is M x y ∙ t))
+    judge_trivial t e = judge TRIVIAL refl e (λ M o k w x y g i. yes _ _ (trivial_is M x y ∙ t))
 
     module _ (t : z ≡ false) {a : ℕ} (ea : a ≡ get_or n.alive r 0) where
-      pub judge_gone : (a ≡ 1 → ⊥) → n' ≡ put_fate r 1 n → JudgedRow P s f n f n' r
+      pub judge_gone : (a ≡ 1 → ⊥) → n' ≡ put_fate r DROPPED n → JudgedRow P s f n f n' r
       unfolding fate_of is_rewritten
       judge_gone b e =
-          judge 1 refl e
+          judge DROPPED refl e
           (λ M o k w x y g i. no _ _ (trivial_is M x y ∙ t) ∙ no _ _ (sym (g.alive r (omega (arith, p, y.rows))) ∙ one_not (get_or n.alive r 0) (λ q. b (ea ∙ q))))
 
       module _ (b : a ≡ 1) {u : ℕ} (eu : u ≡ get_or n.touched r 0) where
         touched_is : {M : Model} {o : List ℕ} {w : Work} → Call M s → Shows M f n o w → is_one (get_or n.touched r 0) ≡ (row_of w r).touched
         touched_is y g = (row_shown y g p (sym ea ∙ b)).touched
 
-        pub judge_untouched : (u ≡ 1 → ⊥) → n' ≡ put_fate r 2 n → JudgedRow P s f n f n' r
+        pub judge_untouched : (u ≡ 1 → ⊥) → n' ≡ put_fate r WRITTEN n → JudgedRow P s f n f n' r
         unfolding fate_of is_rewritten
         judge_untouched d e =
-            judge 2 refl e
+            judge WRITTEN refl e
             (λ M o k w x y g i. no _ _ (trivial_is M x y ∙ t) ∙ yes _ _ (row_alive y g p (sym ea ∙ b)) ∙ no _ _ (sym (touched_is y g) ∙ one_not (get_or n.touched r 0) (λ q. d (eu ∙ q))))
 
         module _ (d : u ≡ 1) {v : Float} (B : Reads P s f n v (λ M w. rewritten_bound M (row_of w r) r)) where
           touched_one : {M : Model} {o : List ℕ} {w : Work} → Call M s → Shows M f n o w → (row_of w r).touched ≡ true
           touched_one y g = sym (touched_is y g) ∙ ap is_one (sym eu ∙ d) ∙ one_is
 
-          pub judge_infinite : is_finite v ≡ false → n' ≡ put_fate r 2 n → JudgedRow P s f n f n' r
+          pub judge_infinite : is_finite v ≡ false → n' ≡ put_fate r WRITTEN n → JudgedRow P s f n f n' r
           unfolding fate_of is_rewritten
           judge_infinite j e =
-              judge 2 refl e
+              judge WRITTEN refl e
               (λ M o k w x y g i. no _ _ (trivial_is M x y ∙ t) ∙ yes _ _ (row_alive y g p (sym ea ∙ b)) ∙ yes _ _ (touched_one y g) ∙ no _ _ (ap is_finite (B.reads M o k w x y g i) ∙ j))
 
-          pub judge_finite : {f' : Floats} → length f.bound ≡ s.rows → is_finite v ≡ true → f' ≡ put_bound r v f → n' ≡ put_fate r 3 n → JudgedRow P s f n f' n' r
+          pub judge_finite : {f' : Floats} → length f.bound ≡ s.rows → is_finite v ≡ true → f' ≡ put_bound r v f → n' ≡ put_fate r REWRITTEN n → JudgedRow P s f n f' n' r
           unfolding fate_of
           judge_finite {f'} m j ef e =
               record {
                 floats = ef ∙ ap (λ (x : List Float). with_bound x f) (sym (ap (λ (x : Floats). x.bound) ef));
-                numbers = fate_with n n' r 3 e;
-                fate_other = fate_other_lem n n' r 3 e;
+                numbers = fate_with n n' r REWRITTEN e;
+                fate_other = fate_other_lem n n' r REWRITTEN e;
                 bound_other = λ q ne. ap (λ (x : Floats). at x.bound q) ef ∙ get_or-set_other f.bound r q v nan ne;
                 fate = λ M o k w x y g i.
-                    fate_now n n' r 3 e (omega (arith, l, p))
+                    fate_now n n' r REWRITTEN e (omega (arith, l, p))
                     ∙ sym (no _ _ (trivial_is M x y ∙ t) ∙ yes _ _ (row_alive y g p (sym ea ∙ b)) ∙ yes _ _ (touched_one y g) ∙ yes _ _ (ap is_finite (B.reads M o k w x y g i) ∙ j));
                 bound = λ M o k w x y g i q. ap (λ (h : Floats). at h.bound r) ef ∙ get_or-set_same f.bound r v nan (omega (arith, m, p)) ∙ sym (B.reads M o k w x y g i);
               }

@@ -6,14 +6,14 @@ ghost use Rattle.emit.specs.FateNumbers.{fate_is, number_of, keeps, emits, rewri
 
 use space::Context;
 
-// A row's fate: trivially true, dropped and kept for validation, emitted as written, or emitted
-// rewritten and kept. The slice that the caller lends has it as a number, 0 to 3 in this order.
+// A row's fate: trivially true, emitted as written, emitted rewritten and kept for validation, or dropped
+// and kept. The slice that the caller lends has it as a number, 0 to 3 in this order.
 #[derive(Clone, Copy, PartialEq, Eq)]
 pub enum Fate {
     Trivial = 0,
-    Dropped = 1,
-    Written = 2,
-    Rewritten = 3,
+    Written = 1,
+    Rewritten = 2,
+    Dropped = 3,
 }
 
 impl From<usize> for Fate {
@@ -22,9 +22,9 @@ impl From<usize> for Fate {
     fn from(number: usize) -> Fate {
         match number {
             0 => Fate::Trivial,
-            1 => Fate::Dropped,
-            2 => Fate::Written,
-            _ => Fate::Rewritten,
+            1 => Fate::Written,
+            2 => Fate::Rewritten,
+            _ => Fate::Dropped,
         }
     }
 }
@@ -42,7 +42,7 @@ impl Fate {
     pub(crate) fn is_kept(self) -> bool
         ensures { result ≡ keeps self }
     {
-        matches!(self, Fate::Dropped | Fate::Rewritten)
+        matches!(self, Fate::Rewritten | Fate::Dropped)
     }
 
     // Whether a row of this fate is emitted.

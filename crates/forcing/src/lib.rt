@@ -7,7 +7,7 @@
 #![tactic(auto)]
 
 mod fixing;
-mod tests;
+mod forces;
 
 pub use fixing::fix_all;
-pub use tests::forces;
+pub use forces::forces;

@@ -32,6 +32,7 @@ pub use params::{
     MAX_ROUNDS, REDUNDANT_MARGIN, max_rounds, max_waves,
 };
 pub use rewrites::{binary, rewrite_count, spared};
+pub use sides::rhs_mag;
 
 // What a row's formulas look at, by value: its two sides, the magnitude of the terms folded out of
 // it and their sum, the tolerance that it is held to, and how many terms it has as written.

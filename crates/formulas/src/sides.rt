@@ -2,6 +2,7 @@
 // changed: what a row's activities say of it: whether no point meets it, whether it may force its
 // variables, whether it is redundant.
 ghost use Rattle.std.specs.Prelude.{◌≡◌};
+ghost use Rattle.floats.specs.Num.{abs, ◌⊕◌};
 ghost use Rattle.definition.specs.Model.{rhs_mag};
 ghost use Rattle.definition.specs.Work as work;
 ghost use Rattle.definition.specs.Sides as sides;
@@ -14,13 +15,20 @@ use definition::Activity;
 
 // The lower side's tests stand beside the upper's: they read the other side and add where those subtract, a line each, and the
 // definition has each spelled out.
+// = rhs_mag, by the row's shift alone.
+pub fn rhs_mag(b: f64, shift: f64) -> f64
+    ensures { result ≡ abs (b ⊕ shift) }
+{
+    floats::absolute(b + shift)
+}
+
 impl Limits {
     // The magnitude of a bound as written.
     #[tactic(auto, unfolding(definition::specs::Model::rhs_mag))]
     pub(crate) fn rhs_mag(self, b: f64) -> f64
         ensures { result ≡ rhs_mag (bare self) b }
     {
-        floats::absolute(b + self.shift)
+        rhs_mag(b, self.shift)
     }
 
     // The row's magnitude at the corner that meets a side.

@@ -20,8 +20,8 @@ use Rattle.bounds.specs.Queued.{inv_queued}
 use Rattle.folds.specs.Counting.{true_false}
 use Rattle.folds.specs.Kept.{Kept, hold_kept}
 use Rattle.coeffs.specs.Keeping.{binding_by, after_inv}
-use Rattle.rewrites.specs.Nonzero.{rewrite_nonzero}
-use Rattle.rewrites.specs.After.{after_alive}
+use Rattle.tighten.specs.Nonzero.{rewrite_nonzero}
+use Rattle.tighten.specs.After.{after_alive}
 use Rattle.tighten.specs.Over.{ended, term_here, rewrite_here, step_is, shown}
 use Rattle.tighten.specs.Counted.{inv_rewrote}
 

@@ -1,4 +1,12 @@
--- What coefficient tightening's contracts cite, and its laws.
+-- What coefficient tightening's contracts cite, and its laws: what one rewrite does to a row in the working slices, then a row's terms and the rows.
+pub mod Pigeonhole
+pub mod Staying
+pub mod Stores
+pub mod Settling
+pub mod Adding
+pub mod Rebinding
+pub mod After
+pub mod Nonzero
 pub mod Tightening
 pub mod Over
 pub mod Counted

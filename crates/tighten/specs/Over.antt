@@ -16,8 +16,8 @@ use Rattle.definition.specs.Bindings.{rewrite_binding, growth}
 use Rattle.definition.specs.Tighten.{Rewriting, set_coeff, queued, binary, rewrite_of, rebound_row, row_after, rewrite_step, rewrite_loop}
 use Rattle.view.specs.Lists.{either}
 use Rattle.readers.specs.Reading.{row_of}
-use Rattle.rewrites.specs.Rebinding.{besides_row}
-use Rattle.rewrites.specs.Staying.{row_again}
+use Rattle.tighten.specs.Rebinding.{besides_row}
+use Rattle.tighten.specs.Staying.{row_again}
 
 -- a function of a choice is the choice of what it gives
 pub choose_map : {A B : Type 0} (g : A → B) (b : Bool) (x y : A) → choose b (g x) (g y) ≡ g (choose b x y)

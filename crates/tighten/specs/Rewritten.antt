@@ -22,7 +22,7 @@ use Rattle.readers.specs.RowAt.{row_alive, row_inv, alive_of}
 use Rattle.folds.specs.Apart.{elsewhere, untouched, outside, other_shown}
 use Rattle.folds.specs.Stands.{Standing, Turns, turns_acts, tells_reads, standing}
 use Rattle.folds.specs.Holding.{HoldsRow}
-use Rattle.rewrites.specs.Staying.{row_again}
+use Rattle.tighten.specs.Staying.{row_again}
 use Rattle.tighten.specs.Over.{back, on, ended, queued_rows, shown}
 use Rattle.tighten.specs.Carried.{progress_of, Carries}
 use Rattle.tighten.specs.Counted.{rewrote_acts}

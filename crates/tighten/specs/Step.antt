@@ -29,8 +29,8 @@ use Rattle.readers.specs.Reading.{row_of, Alive, ReadsF, Domains}
 use Rattle.readers.specs.Limits.{ReadsLimits}
 use Rattle.readers.specs.RowAt.{row_at, row_alive, alive_of}
 use Rattle.coeffs.specs.Keeping.{Nonzero}
-use Rattle.rewrites.specs.Nonzero.{rewrite_nonzero}
-use Rattle.rewrites.specs.After.{row_after_keeps, after_alive}
+use Rattle.tighten.specs.Nonzero.{rewrite_nonzero}
+use Rattle.tighten.specs.After.{row_after_keeps, after_alive}
 use Rattle.tighten.specs.Tightening.{Tightening, tightening_spans, tightening_written, tightening_domains}
 use Rattle.tighten.specs.Over.{ended, end_of, ended_over, step_is, over, queued_over, or_changed, step_changed, shown, stored_is, shown_over}
 use Rattle.tighten.specs.Carried.{Progress, progress_of, begun, or_before, carried, Carries}

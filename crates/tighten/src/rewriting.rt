@@ -13,10 +13,10 @@ ghost use Rattle.tighten.specs.Tightening.{Tightening};
 ghost use Rattle.tighten.specs.Over.{ended, closed};
 ghost use Rattle.tighten.specs.Carried.{Carries, carried, begun, progressed};
 
-use crate::Progress;
+use crate::after::row_after;
+use crate::{LiveTerm, Progress};
 use definition::{Activity, Rows};
 use formulas::OneSided;
-use rewrites::LiveTerm;
 use space::{Coeffs, Context, Len, Rewrote, Touched, Vars};
 use view::Lists;
 
@@ -77,7 +77,7 @@ fn rewrite_step(
         var: v,
         coeff: a,
     };
-    rewrites::row_after(
+    row_after(
         lists.rows.starts,
         floats,
         numbers,
