@@ -6,8 +6,8 @@
 // none.
 #![tactic(auto)]
 
+mod corners;
 mod fixing;
-mod forces;
 
+pub use corners::forces;
 pub use fixing::fix_all;
-pub use forces::forces;

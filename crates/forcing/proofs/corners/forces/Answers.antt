@@ -1,7 +1,7 @@
 -- `forces` is forces_min or forces_max.
 use Rattle.readers.specs.Knowing.{looks_spans, span_at}
 use Rattle.forcing.specs.Forced.{at_min, at_max, min_not, min_at, max_not, max_at}
-use Rattle.forcing.proofs.forces.forces.Goals as goal
+use Rattle.forcing.proofs.corners.forces.Goals as goal
 
 pub limits-x-requires : goal.limits-x-requires
 limits-x-requires c = search (span_at, looks_spans)

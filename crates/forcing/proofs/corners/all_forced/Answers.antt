@@ -7,7 +7,7 @@ use Rattle.readers.specs.Reading.{domain_in}
 use Rattle.readers.specs.Knowing.{looks_spans, looks_domains}
 use Rattle.space.specs.Store.{floats_of, numbers_of}
 use Rattle.forcing.specs.Forced.{live_small, TermTold, told_of, all_forced_is}
-use Rattle.forcing.proofs.forces.all_forced.Goals as goal
+use Rattle.forcing.proofs.corners.all_forced.Goals as goal
 
 pub all-requires-clause-callable : goal.all-requires-clause-callable
 all-requires-clause-callable c =
