@@ -8,7 +8,9 @@
 -- `two_sum_largest`, `split_overflow`, `two_product_underflow` and `two_product_overflow` are numbers past these conditions at which it is false.
 use Rattle.std.specs.Prelude.{◌≡◌, ◌⊎◌, ℕ, suc, ◌+◌, ◌-◌, ◌*◌, ◌^◌, ◌≤◌, ◌<◌, Bool, true, false, not, T, eqb, leb, ℤ, pos, negsuc, neg_ℤ, ◌+ℤ◌, ◌-ℤ◌, ◌*ℤ◌, Float}
 use Rattle.std.proofs.Math.Path.{refl}
-use Rattle.std.proofs.Common.{sym, ap, ◌∙◌, subst, inl, inr, zero-le, le_refl, le_trans, le_of_eq, le_of_lt, lt_of_lt_of_le, lt_of_le_of_lt, not-le_of_lt, eq-or-lt_of_le, eq-zero-or-pos, mul-one, one-mul, zero-mul, mul-zero, mul_comm, mul_assoc, mul-pos, mul-le-mul_right, mul-le-mul_left, mul-le-mul, le_of_mul-le-mul_right, mul-lt-mul_of_pos_right, arith, leb→le, lit≤, lit<, pow-add, pow_pos, pow_mono}
+use Rattle.std.proofs.Common.{sym, ap, ◌∙◌, subst, inl, inr, zero-le, le_refl, le_trans, le_of_eq, le_of_lt, lt_of_lt_of_le, lt_of_le_of_lt, not-le_of_lt, eq-or-lt_of_le, eq-zero-or-pos, mul-one}
+use Rattle.std.proofs.Common.{one-mul, zero-mul, mul-zero, mul_comm, mul_assoc, mul-pos, mul-le-mul_right, mul-le-mul_left, mul-le-mul, le_of_mul-le-mul_right}
+use Rattle.std.proofs.Common.{mul-lt-mul_of_pos_right, arith, leb→le, lit≤, lit<, pow-add, pow_pos, pow_mono}
 use Rattle.std.proofs.Math.Nat.{eq_of_mul-eq-mul_right}
 use Rattle.std.proofs.Math.Dec.{nleb→lt}
 use Rattle.std.specs.Float.{nan, inf, binary64}

@@ -98,13 +98,16 @@ module _ (d : CDouble) (nh : Num d.hi) (nl : Num d.lo) (f : T (finite (d.hi ⊕ 
           subst (UpOf (s d nh nl f small)) (going_up d two refl true refl h)
           (record {
             real = V0.real;
-            above = in_order (leb (P (s d nh nl f small) + N (rank r)) (P (rank r) + N (s d nh nl f small))) (leb→le (P (s d nh nl f small) + N (rank r)) (P (rank r) + N (s d nh nl f small))) (nleb→lt (P (s d nh nl f small) + N (rank r)) (P (rank r) + N (s d nh nl f small))) V0;
+            above = in_order (leb (P (s d nh nl f small) + N (rank r)) (P (rank r) + N (s d nh nl f small)))
+                (leb→le (P (s d nh nl f small) + N (rank r)) (P (rank r) + N (s d nh nl f small))) (nleb→lt (P (s d nh nl f small) + N (rank r)) (P (rank r) + N (s d nh nl f small))) V0;
             least = λ y hy o. V0.least y hy (chain (rank two.hi) (s d nh nl f small) (rank y) x_below o);
           })
         where
-          in_order : (b : Bool) → (T b → (s d nh nl f small) ⊑ rank (next_up two.hi)) → (T (not b) → rank (next_up two.hi) ⊏ (s d nh nl f small)) → NextOf two.hi (next_up two.hi) → (s d nh nl f small) ⊑ rank (next_up two.hi)
+          in_order : (b : Bool) → (T b → (s d nh nl f small) ⊑ rank (next_up two.hi)) → (T (not b) → rank (next_up two.hi) ⊏ (s d nh nl f small)) → NextOf two.hi (next_up two.hi)
+              → (s d nh nl f small) ⊑ rank (next_up two.hi)
           in_order true a b V0 = a tt
-          in_order false a b V0 = absurd (not-le_of_lt V0.above (subst (λ (z : ℤ). rank (next_up two.hi) ⊑ z) (sym x_is) ((held_mono (next_up two.hi) V0.real (s d nh nl f small)).1 (le_of_lt (b tt)))))
+          in_order false a b V0 = absurd (not-le_of_lt V0.above (subst (λ (z : ℤ). rank (next_up two.hi) ⊑ z) (sym x_is)
+              ((held_mono (next_up two.hi) V0.real (s d nh nl f small)).1 (le_of_lt (b tt)))))
       go false h =
           let p : rank two.lo ⊑ pos 0 = subst (λ (z : ℤ). rank two.lo ⊑ z) zero_rank (nlt→⊑ 0f two.lo real_0 real_l (subst (λ (t : Bool). T (not t)) (sym h) tt)) in
           subst (UpOf (s d nh nl f small)) (staying_up d two refl true refl h)
@@ -127,13 +130,16 @@ module _ (d : CDouble) (nh : Num d.hi) (nl : Num d.lo) (f : T (finite (d.hi ⊕ 
           subst (DownOf (s d nh nl f small)) (going_down d two refl false refl h)
           (record {
             real = V0.real;
-            below = in_order (leb (P (rank r) + N (s d nh nl f small)) (P (s d nh nl f small) + N (rank r))) (leb→le (P (rank r) + N (s d nh nl f small)) (P (s d nh nl f small) + N (rank r))) (nleb→lt (P (rank r) + N (s d nh nl f small)) (P (s d nh nl f small) + N (rank r))) V0;
+            below = in_order (leb (P (rank r) + N (s d nh nl f small)) (P (s d nh nl f small) + N (rank r)))
+                (leb→le (P (rank r) + N (s d nh nl f small)) (P (s d nh nl f small) + N (rank r))) (nleb→lt (P (rank r) + N (s d nh nl f small)) (P (s d nh nl f small) + N (rank r))) V0;
             greatest = λ y hy o. V0.greatest y hy (chain' (rank y) (s d nh nl f small) (rank two.hi) o x_above);
           })
         where
-          in_order : (b : Bool) → (T b → rank (next_down two.hi) ⊑ (s d nh nl f small)) → (T (not b) → (s d nh nl f small) ⊏ rank (next_down two.hi)) → BeforeOf two.hi (next_down two.hi) → rank (next_down two.hi) ⊑ (s d nh nl f small)
+          in_order : (b : Bool) → (T b → rank (next_down two.hi) ⊑ (s d nh nl f small)) → (T (not b) → (s d nh nl f small) ⊏ rank (next_down two.hi))
+              → BeforeOf two.hi (next_down two.hi) → rank (next_down two.hi) ⊑ (s d nh nl f small)
           in_order true a b V0 = a tt
-          in_order false a b V0 = absurd (not-le_of_lt V0.below (subst (λ (z : ℤ). z ⊑ rank (next_down two.hi)) (sym x_is) ((held_mono (next_down two.hi) V0.real (s d nh nl f small)).0 (le_of_lt (b tt)))))
+          in_order false a b V0 = absurd (not-le_of_lt V0.below (subst (λ (z : ℤ). z ⊑ rank (next_down two.hi)) (sym x_is)
+              ((held_mono (next_down two.hi) V0.real (s d nh nl f small)).0 (le_of_lt (b tt)))))
       go false h =
           let p : pos 0 ⊑ rank two.lo = subst (λ (z : ℤ). z ⊑ rank two.lo) zero_rank (nlt→⊑ two.lo 0f real_l real_0 (subst (λ (t : Bool). T (not t)) (sym h) tt)) in
           subst (DownOf (s d nh nl f small)) (staying_down d two refl false refl h)

@@ -172,8 +172,11 @@ module _ {rows : Rows} {s : Context} {f : Floats} {n : Numbers} (r : ℕ) (p : r
               bound_some M w r b up y.is (ap (λ (m : List ℕ). eqb (get_or m r 0) 1) q.cmp ∙ eu) ∙ cc (bb, bk) ∙ sym ez;
         }
 
-    pub bound_up : {e : CDouble} {m : Comparison} → m ≡ comparison_of (get_or rows.cmp.now r 0) → at_most m ≡ true → e ≡ double.plus d kept → z ≡ double.rounded e true → Reads (Written rows) s f n z (λ M w. rewritten_bound M (row_of w r) r)
+    pub bound_up : {e : CDouble} {m : Comparison} → m ≡ comparison_of (get_or rows.cmp.now r 0) → at_most m ≡ true → e ≡ double.plus d kept → z ≡ double.rounded e true
+        → Reads (Written rows) s f n z (λ M w. rewritten_bound M (row_of w r) r)
     bound_up em c ee ez = bound_by true (sym (at_most_byte _) ∙ ap at_most (sym em) ∙ c) (ez ∙ ap (λ (m : CDouble). double.rounded m true) (ee ∙ ap (double.plus d) (sym (yes kept (neg kept) refl))))
 
-    pub bound_down : {e : CDouble} {m : Comparison} → m ≡ comparison_of (get_or rows.cmp.now r 0) → at_most m ≡ false → e ≡ double.plus d (neg kept) → z ≡ double.rounded e false → Reads (Written rows) s f n z (λ M w. rewritten_bound M (row_of w r) r)
-    bound_down em c ee ez = bound_by false (sym (at_most_byte _) ∙ ap at_most (sym em) ∙ c) (ez ∙ ap (λ (m : CDouble). double.rounded m false) (ee ∙ ap (double.plus d) (sym (no kept (neg kept) refl))))
+    pub bound_down : {e : CDouble} {m : Comparison} → m ≡ comparison_of (get_or rows.cmp.now r 0) → at_most m ≡ false → e ≡ double.plus d (neg kept) → z ≡ double.rounded e false
+        → Reads (Written rows) s f n z (λ M w. rewritten_bound M (row_of w r) r)
+    bound_down em c ee ez = bound_by false (sym (at_most_byte _) ∙ ap at_most (sym em) ∙ c)
+        (ez ∙ ap (λ (m : CDouble). double.rounded m false) (ee ∙ ap (double.plus d) (sym (no kept (neg kept) refl))))

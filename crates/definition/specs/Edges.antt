@@ -33,7 +33,21 @@ abbrev pub lending : (l u r m b f e k i c x n a : ℕ) → Option ℕ → Call
 lending l u r m b f e k i c x n a z =
     record {
       model = row (is_le (2 · 0 ∷ []) (# 7));
-      lent = record { lower = l; upper = u; emit_row = r; emit_rewritten = m; emit_rhs = b; emit_from = f; emit_upto = e; kept = k; term_index = i; term_coeff = c; floats = x; numbers = n; adjacency = a };
+      lent = record {
+        lower = l;
+        upper = u;
+        emit_row = r;
+        emit_rewritten = m;
+        emit_rhs = b;
+        emit_from = f;
+        emit_upto = e;
+        kept = k;
+        term_index = i;
+        term_coeff = c;
+        floats = x;
+        numbers = n;
+        adjacency = a;
+      };
       refusal = z;
     }
 

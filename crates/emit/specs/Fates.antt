@@ -113,7 +113,8 @@ unfolding collect choose
 collect_count p g h zero = refl
 collect_count p g h (suc r) = go (p r) (collect_count p g h r)
   where
-    go : (b : Bool) → length (collect p g r) ≡ length (collect p h r) → length (choose b (collect p g r ++ (g r ∷ [])) (collect p g r)) ≡ length (choose b (collect p h r ++ (h r ∷ [])) (collect p h r))
+    go : (b : Bool) → length (collect p g r) ≡ length (collect p h r) → length (choose b (collect p g r ++ (g r ∷ [])) (collect p g r))
+        ≡ length (choose b (collect p h r ++ (h r ∷ [])) (collect p h r))
     go true e = let y = length-append (collect p g r) (g r ∷ []) in let z = length-append (collect p h r) (h r ∷ []) in omega (arith, y, z, e)
     go false e = e
 

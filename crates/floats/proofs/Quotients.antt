@@ -1,7 +1,8 @@
 -- QUOTIENTS OF WHOLE NUMBERS round to the right side of a whole number, and a row of one term that its variable's bounds make redundant within a tolerance is redundant.
 -- Tolerances, margins and slacks made of whole numbers are not negative.
 use Rattle.std.specs.Prelude.{◌≡◌, refl, ◌≢◌, ℕ, zero, suc, ◌+◌, ◌*◌, ◌/◌, ◌^◌, ◌≤◌, ◌<◌, Bool, true, false, not, T, leb, ℤ, pos, negsuc, neg_ℤ, ◌+ℤ◌, ◌-ℤ◌, ◌*ℤ◌, Float}
-use Rattle.std.proofs.Common.{sym, ap, ◌∙◌, subst, le_refl, le_of_eq, le_of_lt, lt_of_le_of_lt, lt_irrefl, zero-mul, mul-pos, mul-le-mul_right, mul-le-mul_left, le-div_iff_mul-le, add-zero, arith, leb→le, lit<, lit≤, pow_pos}
+use Rattle.std.proofs.Common.{sym, ap, ◌∙◌, subst, le_refl, le_of_eq, le_of_lt, lt_of_le_of_lt, lt_irrefl, zero-mul}
+use Rattle.std.proofs.Common.{mul-pos, mul-le-mul_right, mul-le-mul_left, le-div_iff_mul-le, add-zero, arith, leb→le, lit<, lit≤, pow_pos}
 use Rattle.std.proofs.Math.Nat.{le_trans, div-mul-le_self, lt-div-mul-add}
 use Rattle.std.proofs.Math.Dec.{nleb→lt}
 use Rattle.std.specs.Float.{nan, inf, fin}

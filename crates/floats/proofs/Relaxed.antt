@@ -3,7 +3,8 @@
 -- "Not below zero" is the test's own answer, so a NaN is not below it; where one comes in, the result is a NaN, and no test against that holds.
 use Rattle.std.specs.Prelude.{◌≡◌, ◌⊎◌, ℕ, ◌+◌, ◌*◌, ◌^◌, ◌<◌, min, Bool, true, not, ◌||◌, cond, T, ltb, eqb, ℤ, pos, neg_ℤ, ◌-ℤ◌, Float}
 use Rattle.std.proofs.Math.Path.{refl, ap}
-use Rattle.std.proofs.Common.{sym, ◌∙◌, subst, inl, inr, zero-le, le_of_eq, lt_of_lt_of_le, not-le_of_lt, eq-zero-or-pos, zero-mul, mul-zero, mul-pos, mul_comm, mul-le-mul_right, arith, ltb→lt, lt→ltb, lit≤}
+use Rattle.std.proofs.Common.{sym, ◌∙◌, subst, inl, inr, zero-le, le_of_eq, lt_of_lt_of_le, not-le_of_lt}
+use Rattle.std.proofs.Common.{eq-zero-or-pos, zero-mul, mul-zero, mul-pos, mul_comm, mul-le-mul_right, arith, ltb→lt, lt→ltb, lit≤}
 use Rattle.std.proofs.Math.Nat as Nat
 use Rattle.std.proofs.Math.Bool.{false}
 use Rattle.std.specs.Float.{nan, fin, binary64}

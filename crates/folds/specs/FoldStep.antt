@@ -56,7 +56,8 @@ unfolding has_term zip_terms
 in_zip m v [] cs h e = true_false (sym e)
 in_zip m v (u ∷ vs) [] h e = true_false (sym e)
 in_zip m v (u ∷ vs) (a ∷ cs) h e =
-    or_cases (eqb u v) (has_term v (zip_terms vs cs)) (λ y. let x = eqb_true u v y in let q = h 0 (omega arith) in omega (arith, x, q)) (λ z. in_zip m v vs cs (λ k l. h (suc k) (omega (arith, l))) z) e
+    or_cases (eqb u v) (has_term v (zip_terms vs cs)) (λ y. let x = eqb_true u v y in let q = h 0 (omega arith) in omega (arith, x, q))
+    (λ z. in_zip m v vs cs (λ k l. h (suc k) (omega (arith, l))) z) e
 
 pub in_model : {M : Model} {s : Context} {r v : ℕ} → Call M s → r < length M.rhs → has_term v (written M r) ≡ true → v < length M.lower
 unfolding written

@@ -134,7 +134,8 @@ unfolding gives_back bound?
 gives_all x b e l h = rw (e, l, h)
 
 -- it is not given back
-held : {P : Model → Type 0} {s : Context} {r : ℕ} {f : Floats} {n : Numbers} → ((M : Model) (w : Work) (x : Row) → P M → Call M s → Stands M r f n w x → gives_back x ≡ false) → HoldsRow P s r f n f n false
+held : {P : Model → Type 0} {s : Context} {r : ℕ} {f : Floats} {n : Numbers} → ((M : Model) (w : Work) (x : Row) → P M → Call M s → Stands M r f n w x → gives_back x ≡ false)
+    → HoldsRow P s r f n f n false
 unfolding hold_rewrites
 held {P} {s} {r} {f} {n} g =
     record {

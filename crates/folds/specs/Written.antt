@@ -225,7 +225,8 @@ sides_put r lo hi f = put_shift r 0f (put_fold_scale r 0f (put_hi r hi (put_lo r
 abbrev pub marks_put : ℕ → ℕ → Numbers → Numbers
 marks_put r k n = put_binaries r 0 (put_touched r 0 (put_alive r 1 (put_folded r 0 (put_len r k n))))
 
-pub sides_put_lem : (r : ℕ) (lo hi : Float) (f : Floats) {f₁ f₂ f₃ f₄ : Floats} → f₁ ≡ put_lo r lo f → f₂ ≡ put_hi r hi f₁ → f₃ ≡ put_fold_scale r 0f f₂ → f₄ ≡ put_shift r 0f f₃ → f₄ ≡ sides_put r lo hi f
+pub sides_put_lem : (r : ℕ) (lo hi : Float) (f : Floats) {f₁ f₂ f₃ f₄ : Floats} → f₁ ≡ put_lo r lo f → f₂ ≡ put_hi r hi f₁ → f₃ ≡ put_fold_scale r 0f f₂ → f₄ ≡ put_shift r 0f f₃
+    → f₄ ≡ sides_put r lo hi f
 sides_put_lem r lo hi f e₁ e₂ e₃ e₄ = rw (e₄, e₃, e₂, e₁)
 
 pub marks_put_lem : (r k : ℕ) (n : Numbers) {n₁ n₂ n₃ n₄ n₅ : Numbers} → n₁ ≡ put_len r k n → n₂ ≡ put_folded r 0 n₁ → n₃ ≡ put_alive r 1 n₂

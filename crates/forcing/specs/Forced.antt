@@ -34,7 +34,8 @@ use Rattle.readers.specs.Knowing.{Looks, looks_spans, looks_domains, of_limits}
 -- ---- forced_term
 pub forced_is : {lists : Lists} {s : Context} {f : Floats} (r v : ℕ) (a sliver mag : Float) {x : Limits} {k : ℕ} {int z : Bool} {lo hi : Float}
     → ReadsLimits s f r k x → k ≡ get_or lists.rows.starts.now (r + 1) 0 - get_or lists.rows.starts.now r 0 → ReadsM (Domains lists.domain.now) s int (λ M. is_int M v)
-    → lo ≡ get_or f.elo v nan → hi ≡ get_or f.ehi v nan → Says x.feas x.terms z (λ M q. forced_by M q int a lo hi sliver mag) → ReadsF (Looks lists) s f z (λ M w. forced_term M r sliver mag w (term v a))
+    → lo ≡ get_or f.elo v nan → hi ≡ get_or f.ehi v nan → Says x.feas x.terms z (λ M q. forced_by M q int a lo hi sliver mag)
+    → ReadsF (Looks lists) s f z (λ M w. forced_term M r sliver mag w (term v a))
 forced_is r v a sliver mag lim ek ei e₁ e₂ ez =
     record {
       reads = λ M n o k w p c h i.
@@ -46,7 +47,8 @@ forced_none : (M : Model) (r : ℕ) (sliver mag : Float) (w : Work) → all_forc
 unfolding all_forced
 forced_none M r sliver mag w = refl
 
-forced_cons : (M : Model) (r : ℕ) (sliver mag : Float) (w : Work) (t : Term) (ts : List Term) → all_forced M r sliver mag w (t ∷ ts) ≡ (forced_term M r sliver mag w t && all_forced M r sliver mag w ts)
+forced_cons : (M : Model) (r : ℕ) (sliver mag : Float) (w : Work) (t : Term) (ts : List Term) → all_forced M r sliver mag w (t ∷ ts)
+    ≡ (forced_term M r sliver mag w t && all_forced M r sliver mag w ts)
 unfolding all_forced
 forced_cons M r sliver mag w t ts = refl
 
@@ -63,7 +65,8 @@ module _ (M : Model) (r : ℕ) (sliver mag : Float) (w : Work) where
   one_fails : (ts : List Term) (i : ℕ) → i < length ts → forced_term M r sliver mag w (get_or ts i no_term) ≡ false → all_forced M r sliver mag w ts ≡ false
   one_fails [] i q e = absurd (omega arith)
   one_fails (t ∷ ts) zero q e = forced_cons M r sliver mag w t ts ∙ ap (λ (b : Bool). b && all_forced M r sliver mag w ts) e
-  one_fails (t ∷ ts) (suc i) q e = forced_cons M r sliver mag w t ts ∙ ap (λ (b : Bool). forced_term M r sliver mag w t && b) (one_fails ts i (omega arith) e) ∙ and_false (forced_term M r sliver mag w t)
+  one_fails (t ∷ ts) (suc i) q e = forced_cons M r sliver mag w t ts ∙ ap (λ (b : Bool). forced_term M r sliver mag w t && b) (one_fails ts i (omega arith) e)
+      ∙ and_false (forced_term M r sliver mag w t)
     where
       and_false : (b : Bool) → (b && false) ≡ false
       and_false true = refl

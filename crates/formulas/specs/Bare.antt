@@ -6,7 +6,8 @@ use Rattle.std.proofs.Math.Option.{none}
 use Rattle.definition.specs.declared.Activity.{Activity}
 use Rattle.definition.specs.Params.{params}
 use Rattle.definition.specs.Model.{Model, Row, nnz, rhs_mag}
-use Rattle.definition.specs.Sides.{hi_side, lo_side, mag_l, mag_u, within_lo, within_hi, within, within_by, side_mag, mag_both, budget_l, budget_u, above_hi, below_lo, unreachable, near_min, near_max, redundant}
+use Rattle.definition.specs.Sides.{hi_side, lo_side, mag_l, mag_u, within_lo, within_hi, within, within_by, side_mag}
+use Rattle.definition.specs.Sides.{mag_both, budget_l, budget_u, above_hi, below_lo, unreachable, near_min, near_max, redundant}
 use Rattle.definition.specs.Singles.{finite_mag, room_at, widened_at, dropped_room, new_lower, new_upper}
 use Rattle.definition.specs.Rewrites.{Form, le_form, ge_form, no_form, form_of, vacuous_room, vacuous_le, vacuous_ge, vacuous}
 use Rattle.formulas.specs.declared.Limits.{Limits}

@@ -94,7 +94,8 @@ module _ {P : Model → Type 0} {s : Context} {f₀ f : Floats} {n₀ n : Number
               };
         }
 
-    pub implying_stop : {fail : Infeasible} → Tries P s f n f' n' (Err fail) (λ M. implied_term M r (bare x) act (term v y)) → Tries P s f₀ n₀ f' n' (Err fail) (λ M w. implied_bounds M r (row_of w r) act (row_of w r).terms w)
+    pub implying_stop : {fail : Infeasible} → Tries P s f n f' n' (Err fail) (λ M. implied_term M r (bare x) act (term v y))
+        → Tries P s f₀ n₀ f' n' (Err fail) (λ M w. implied_bounds M r (row_of w r) act (row_of w r).terms w)
     implying_stop {fail = fail} t =
         record {
           does = λ M o k w b c h j.

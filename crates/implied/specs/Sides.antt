@@ -161,7 +161,8 @@ module _ (upper : Bool) (r : ℕ) (row : Row) (side : Side) (c : Float) (t : Ter
   pub half_none : {P : Model → Type 0} {s : Context} {f : Floats} {n : Numbers} → z ≡ std.None → Tries P s f n f n (Ok tt) (λ M. side_step M upper r row side c t)
   half_none e = record { does = λ M o k w p d h i. went_by (half_is e M w ∙ rest_none M upper r row side c t w) h }
 
-  pub half_some : {P : Model → Type 0} {s : Context} {f f' : Floats} {n n' : Numbers} {y : Outcome} {rest : Float} → z ≡ std.Some rest → Tries P s f n f' n' y (λ M. from_rest M upper r row side c t (some rest))
+  pub half_some : {P : Model → Type 0} {s : Context} {f f' : Floats} {n n' : Numbers} {y : Outcome} {rest : Float} → z ≡ std.Some rest
+      → Tries P s f n f' n' y (λ M. from_rest M upper r row side c t (some rest))
       → Tries P s f n f' n' y (λ M. side_step M upper r row side c t)
   half_some e k = tries_as (λ M o j w p d h i. half_is e M w) k
 
@@ -210,7 +211,8 @@ module _ {ds : List ℕ} {s : Context} {f : Floats} (upper : Bool) (side : Side)
   pub quiet_none : z ≡ std.None → Quiet ds s f side upper c v a
   quiet_none u = record { quiet = λ lists n r x d. half_none upper r (bare x) side c (term v a) g u }
 
-  pub quiet_still : {rest q : Float} {b : Bool} → z ≡ std.Some rest → q ≡ quotient_of side.bound rest a → b ≡ bounds_above upper a → Held a → SideStill ds s f side v q b → Quiet ds s f side upper c v a
+  pub quiet_still : {rest q : Float} {b : Bool} → z ≡ std.Some rest → q ≡ quotient_of side.bound rest a → b ≡ bounds_above upper a → Held a → SideStill ds s f side v q b
+      → Quiet ds s f side upper c v a
   quiet_still {rest} {q} {b} u eq eb ha t =
       record {
         quiet = λ lists n r x d.

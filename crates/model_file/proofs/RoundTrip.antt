@@ -13,7 +13,8 @@ use Rattle.model_file.specs.declared.Settings.{Settings}
 use Rattle.model_file.specs.Format.{got, Parser, byte, number, float, optional, count, code, rules, settings, values, variable, side, head}
 use Rattle.model_file.specs.Format.{term, many, row, Row, rows, ends, all_terms, Lists, lists, end, whole, file, decoded, decode}
 use Rattle.model_file.specs.Places.{then_got, refuse_no, optional_present}
-use Rattle.model_file.specs.Encode.{bytes_of, float_bytes, each, variable_bytes, term_bytes, row_bytes, variables_of, terms_of, rows_of, encode, Every, Binary64, Code, Short, Rising, Starts, WellFormed}
+use Rattle.model_file.specs.Encode.{bytes_of, float_bytes, each, variable_bytes, term_bytes, row_bytes, variables_of, terms_of}
+use Rattle.model_file.specs.Encode.{rows_of, encode, Every, Binary64, Code, Short, Rising, Starts, WellFormed}
 use Rattle.model_file.specs.RoundTrip.{RowOk, RowsAre, RowsOk, SheetOk, TermOk, TermsAre, VariableOk, VariablesAre}
 
 -- ---- numbers and floats

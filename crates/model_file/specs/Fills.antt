@@ -203,7 +203,8 @@ pub counted : (t n : ℕ) {s r : List ℕ} {z : Result (Unit {0}) FileRefusal} {
 counted t n v = let z : t + n - t ≡ n = omega arith in rw z at v
 
 -- all of them
-pub from_zero : {A C : Type 0} (p : Parser A) (put : ℕ → A → C → C) (n : ℕ) {s r : List ℕ} {i : ℕ} {z : Result (Unit {0}) FileRefusal} {c k : C} → ListFilled p put (n - 0) s i z r c k → ListFilled p put n s i z r c k
+pub from_zero : {A C : Type 0} (p : Parser A) (put : ℕ → A → C → C) (n : ℕ) {s r : List ℕ} {i : ℕ} {z : Result (Unit {0}) FileRefusal} {c k : C}
+    → ListFilled p put (n - 0) s i z r c k → ListFilled p put n s i z r c k
 from_zero p put n v = let z : n - 0 ≡ n = omega arith in rw z at v
 
 -- ---- the rows

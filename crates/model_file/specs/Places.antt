@@ -164,7 +164,8 @@ module _ (s : List ℕ) (at : ℕ) where
 
     pub head_side : get_or s at 0 ≤ 7 → get_or s at 0 % 4 ≤ 2 → head t (drop at s) ≡ side t (get_or s at 0) (drop (at + 1) s)
     unfolding head
-    head_side r d = then_got _ (byte_got s at h) ∙ then_got _ (refuse_no 12 (drop (at + 1) s) (le-ltb 7 (get_or s at 0) r)) ∙ then_got _ (refuse_no 12 (drop (at + 1) s) (le-ltb 2 (get_or s at 0 % 4) d))
+    head_side r d = then_got _ (byte_got s at h) ∙ then_got _ (refuse_no 12 (drop (at + 1) s) (le-ltb 7 (get_or s at 0) r))
+        ∙ then_got _ (refuse_no 12 (drop (at + 1) s) (le-ltb 2 (get_or s at 0 % 4) d))
 
   pub code_end : length s ≤ at → code (drop at s) ≡ refused 11
   unfolding code

@@ -202,7 +202,8 @@ module _ (i : Input) {b : Results} {x : Working} {s : Context} (a : AcceptedCall
   fit = counts_fit M s call
 
   -- infeasible
-  pub promise_stopped : {e₀ : Infeasible} {f : Floats} {n : Numbers} {z : Presolved} {x' : Working} → Reduces Here s f n (Err e₀) → presolved_is z ≡ infeasible (counts_of n) → x' ≡ working_after none x → Promise M b x (Ok z) b x'
+  pub promise_stopped : {e₀ : Infeasible} {f : Floats} {n : Numbers} {z : Presolved} {x' : Working} → Reduces Here s f n (Err e₀) → presolved_is z ≡ infeasible (counts_of n) → x'
+      ≡ working_after none x → Promise M b x (Ok z) b x'
   unfolding outcome results_after
   promise_stopped {n = n} r o w =
       let g = ended_is (r.does M called call) in
@@ -214,7 +215,8 @@ module _ (i : Input) {b : Results} {x : Working} {s : Context} (a : AcceptedCall
       }
 
   -- a model
-  pub promise_done : {f : Floats} {n : Numbers} {z : Presolved} {b' : Results} {x' : Working} → Reduces Here s f n (Ok tt) → Finished Rows s f n z b b' → x' ≡ working_after none x → Promise M b x (Ok z) b' x'
+  pub promise_done : {f : Floats} {n : Numbers} {z : Presolved} {b' : Results} {x' : Working} → Reduces Here s f n (Ok tt) → Finished Rows s f n z b b' → x' ≡ working_after none x
+      → Promise M b x (Ok z) b' x'
   unfolding outcome results_after
   promise_done r h w =
       let u = h.reduced in

@@ -116,7 +116,8 @@ module _ (M : Model) (b : Results) where
   fronts_by none (definition.infeasible k) (Ok (code.Model x)) p e = impossible cc
   fronts_by none (done a) (Ok (code.Model x)) p e = fronts_there x _ _ a b (sizes_of_lem a x p e)
 
-  text_by : (r : Option ℕ) (a : definition.Answer) (z : Result Presolved Refusal) → presolve M ≡ a → answer_is z ≡ outcome r a → call_text z (length M.lower) (length M.upper) (results_after r a b) ≡ outcome_text r a
+  text_by : (r : Option ℕ) (a : definition.Answer) (z : Result Presolved Refusal) → presolve M ≡ a → answer_is z ≡ outcome r a
+      → call_text z (length M.lower) (length M.upper) (results_after r a b) ≡ outcome_text r a
   unfolding outcome results_after call_text outcome_text
   text_by (some m) a (Err x) p e = ap refused_line cc
   text_by (some m) a (Ok (code.Infeasible k)) p e = impossible cc

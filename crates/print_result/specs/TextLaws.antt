@@ -138,7 +138,8 @@ part_lines from upto index coeff {vars} {coeffs} v c =
 
 -- a rewritten row's parts are of the rewritten lists
 pub parts_lines : {m : ℕ} (from upto : ℕ) (index term_index : List ℕ) (coeff term_coeff : List Float) {vars : List ℕ} {coeffs : List Float} → (m ≡ 0 → ⊥)
-    → vars ≡ row_part (marked m) from upto index term_index → coeffs ≡ row_part (marked m) from upto coeff term_coeff → term_lines 0 (length vars) vars coeffs ≡ term_lines from upto term_index term_coeff
+    → vars ≡ row_part (marked m) from upto index term_index → coeffs ≡ row_part (marked m) from upto coeff term_coeff → term_lines 0 (length vars) vars coeffs
+    ≡ term_lines from upto term_index term_coeff
 unfolding choose
 parts_lines from upto index term_index coeff term_coeff h v c =
     part_lines from upto term_index term_coeff

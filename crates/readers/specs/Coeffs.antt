@@ -143,7 +143,8 @@ module _ {ss : List ℕ} {s : Context} {f : Floats} {n : Numbers} {r v : ℕ} wh
 
     -- of any state that the slices show: term k is there
     term_now : {M : Model} {o : List ℕ} {j : ℕ} {w : Work} → Spans ss M → Call M s → Shows M f n o w → Inv M j w
-        → (k < length ((row_of w r).terms ++ (row_of w r).folded)) × TermAt s f n (place_of (get_or ss r 0) (get_or ss (r + 1) 0) (get_or n.len r 0) k) (get_or ((row_of w r).terms ++ (row_of w r).folded) k no_term)
+        → (k < length ((row_of w r).terms ++ (row_of w r).folded)) × TermAt s f n (place_of (get_or ss r 0) (get_or ss (r + 1) 0) (get_or n.len r 0) k)
+        (get_or ((row_of w r).terms ++ (row_of w r).folded) k no_term)
     term_now {w = w} e c h i =
         let x = row_at c h p a i e in
         let l : k < length ((row_of w r).terms ++ (row_of w r).folded) = omega (arith, seek_in, length-append (row_of w r).terms (row_of w r).folded, x.len, x.folds) in

@@ -68,7 +68,8 @@ module _ {is : List ℕ} {cs : List Float} {s : Context} {f : Floats} {a e : ℕ
       }
 
   module _ {i : ℕ} {sum : RowSum} (S : Summing is cs s f a e b i sum) where
-    pub sum_turn : {x : Float} {sum' : RowSum} → e ≤ length is → e ≤ length cs → i < e → ReadsF Any s f x (λ M w. fixed_value w (get_or is i 0)) → sum_of sum' ≡ row_term (sum_of sum) (get_or cs i nan) x
+    pub sum_turn : {x : Float} {sum' : RowSum} → e ≤ length is → e ≤ length cs → i < e → ReadsF Any s f x (λ M w. fixed_value w (get_or is i 0)) → sum_of sum'
+        ≡ row_term (sum_of sum) (get_or cs i nan) x
         → Summing is cs s f a e b (i + 1) sum'
     sum_turn {x} {sum'} p q l v d =
         record {
@@ -123,7 +124,8 @@ module _ {s : Context} {rows : Rows} {r : ℕ} where
         indices = omega (arith, c.last r q, a₂, ap length k.index);
         coeffs = omega (arith, c.coeffs, ap length k.coeff, ap length k.index);
         below = record {
-          below = λ i l. let z : get_or M.index i 0 ≡ get_or rows.index.now i 0 = ap (λ (x : List ℕ). get_or x i 0) k.index in omega (arith, z, c.vars, c.index i (omega (arith, l, ap length k.index)));
+          below = λ i l. let z : get_or M.index i 0 ≡ get_or rows.index.now i 0 = ap (λ (x : List ℕ). get_or x i 0) k.index in omega
+              (arith, z, c.vars, c.index i (omega (arith, l, ap length k.index)));
         };
       }
 

@@ -94,7 +94,8 @@ of_call {r = r} c e g =
       params = c.params;
     }
 
-pub of_limits : {M : Model} {s : Context} {f : Floats} {ss : List ℕ} {r z : ℕ} {x : Limits} → ReadsLimits s f r z x → Call M s → Spans ss M → z ≡ get_or ss (r + 1) 0 - get_or ss r 0 → Of M r x.feas x.terms
+pub of_limits : {M : Model} {s : Context} {f : Floats} {ss : List ℕ} {r z : ℕ} {x : Limits} → ReadsLimits s f r z x → Call M s → Spans ss M → z
+    ≡ get_or ss (r + 1) 0 - get_or ss r 0 → Of M r x.feas x.terms
 of_limits lim c e g =
     let o = of_call c e g in
     record { feas = o.feas ∙ sym lim.feas; terms = o.terms ∙ sym lim.terms; params = o.params }

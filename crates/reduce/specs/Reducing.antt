@@ -117,7 +117,8 @@ module _ {input : Input} where
           }
 
       -- infeasible in a round
-      pub reduce_stopped : {e₀ : Infeasible} {f₂ : Floats} {n₂ : Numbers} → Waves (Running input.obj.now (lists_of input adjacency) input.mode) s f₁ n₁ f₂ n₂ (Err e₀) rounds_of → Reduces (Called input) s f₂ n₂ (Err e₀)
+      pub reduce_stopped : {e₀ : Infeasible} {f₂ : Floats} {n₂ : Numbers} → Waves (Running input.obj.now (lists_of input adjacency) input.mode) s f₁ n₁ f₂ n₂ (Err e₀) rounds_of
+          → Reduces (Called input) s f₂ n₂ (Err e₀)
       reduce_stopped {e₀} {f₂} {n₂} t =
           record {
             does = λ M p c.

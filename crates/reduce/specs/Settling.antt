@@ -64,7 +64,8 @@ module _ {P : Model → Type 0} {s : Context} {f f₁ : Floats} {n n₁ : Number
         does = λ M o k w x c h i.
             let y = T.does M o k (folded r M w) x c (A.does M o k w x c h i) ((fold_fixed_keeps {P = P} r p).keeps M k w x c i) in
             let v = ap (λ (t : Row). empty_row_check M r t (folded r M w)) (folded_row r w (in_rows M o k w x c h i) i) in
-            let u = yes (empty_row_check M r (fold_fixed M r w (row_of w r)) (folded r M w)) (next (folded r M w)) (no_terms_lem (fold_fixed M r w (row_of w r)).terms (sym (len_is M o k w x c h i) ∙ e)) in
+            let u = yes (empty_row_check M r (fold_fixed M r w (row_of w r)) (folded r M w)) (next (folded r M w))
+            (no_terms_lem (fold_fixed M r w (row_of w r)).terms (sym (len_is M o k w x c h i) ∙ e)) in
             subst (λ (t : Step). StepShown M f₂ n₂ o z t) (v ∙ sym u) y;
       }
 
@@ -73,7 +74,8 @@ module _ {P : Model → Type 0} {s : Context} {f f₁ : Floats} {n n₁ : Number
   alive_left e =
       record {
         does = λ M o k w x c h i.
-            let u = no (empty_row_check M r (fold_fixed M r w (row_of w r)) (folded r M w)) (next (folded r M w)) (some_terms (fold_fixed M r w (row_of w r)).terms (λ q. e (len_is M o k w x c h i ∙ q))) in
+            let u = no (empty_row_check M r (fold_fixed M r w (row_of w r)) (folded r M w)) (next (folded r M w))
+            (some_terms (fold_fixed M r w (row_of w r)).terms (λ q. e (len_is M o k w x c h i ∙ q))) in
             subst (λ (t : Step). StepShown M f₁ n₁ o (Ok tt) t) (sym u) (went (A.does M o k w x c h i));
       }
 
@@ -185,7 +187,8 @@ module _ {P : Model → Type 0} {s : Context} {f₀ : Floats} {n₀ : Numbers} {
       let T = subst (λ (y : Outcome). Tries P s f n f₁ n₁ y (λ M. settle_row M r)) q U in
       record { upto = omega (arith, p); ready = ready_went S.ready T (row_keeps r p); tries = one_more T }
 
-  pub settle_stop : {f₁ : Floats} {n₁ : Numbers} {z : Outcome} {u : Infeasible} → r < s.rows → Tries P s f n f₁ n₁ z (λ M. settle_row M r) → z ≡ Err u → Tries P s f₀ n₀ f₁ n₁ (Err u) (λ M. settle_from M s.rows 0)
+  pub settle_stop : {f₁ : Floats} {n₁ : Numbers} {z : Outcome} {u : Infeasible} → r < s.rows → Tries P s f n f₁ n₁ z (λ M. settle_row M r) → z ≡ Err u
+      → Tries P s f₀ n₀ f₁ n₁ (Err u) (λ M. settle_from M s.rows 0)
   settle_stop {f₁} {n₁} {u = u} p T₀ q =
       let T = subst (λ (y : Outcome). Tries P s f n f₁ n₁ y (λ M. settle_row M r)) q T₀ in
       let U = tries_stop (λ M. settle_from M (s.rows - (r + 1)) (r + 1)) (one_more T) in

@@ -38,7 +38,8 @@ use Rattle.rows_kept.specs.Outs.{Ends, failed, ended, Going}
 use Rattle.rows_kept.proofs.Outs.{from_ends, goes_kept}
 use Rattle.rows_kept.specs.Whole.{Read, ReadR, reads, unread, begun}
 use Rattle.rows_kept.proofs.Whole.{read_from_lem}
-use Rattle.rows_kept.specs.States.{Answered, Halts, I, On, Reaches, at_turn, before, begins, changes, counted, drops, fixes, forces, found_infeasible, goes, halts, lowers, marks, passes, raises, reduced_to, singles}
+use Rattle.rows_kept.specs.States.{Answered, Halts, I, On, Reaches, at_turn, before, begins, changes, counted, drops}
+use Rattle.rows_kept.specs.States.{fixes, forces, found_infeasible, goes, halts, lowers, marks, passes, raises, reduced_to, singles}
 
 pub next_is : {P : Work → Type 0} {w : Work} → Each P (next w) → P w
 next_is (went p) = p

@@ -123,7 +123,8 @@ module _ (M : Model) {P : Work → Type 0} (K : Marking P) where
   loop_kept (suc n) f nz r i s p = loop_kept n f nz r (suc i) _ (step_kept f nz r i s p)
 
 module _ (M : Model) {P : Work → Type 0} (K : Marking P) (R : Rowing M P) where
-  pub form_kept : (f : Form) (r : ℕ) (row : Row) (w : Work) (changed : Bool) → get_or w.rows r no_row ≡ row → row.alive ≡ true → form_of row ≡ f → Sided f → P w → P (tighten_form M f r row w changed).0
+  pub form_kept : (f : Form) (r : ℕ) (row : Row) (w : Work) (changed : Bool) → get_or w.rows r no_row ≡ row → row.alive ≡ true → form_of row ≡ f → Sided f → P w
+      → P (tighten_form M f r row w changed).0
   unfolding tighten_form
   form_kept f r row w changed g a e sided p =
       let act : Activity = activity M w row true in

@@ -21,7 +21,8 @@ use Rattle.rows_kept.specs.Waves.{Capped}
 use Rattle.rows_kept.proofs.AllWaves.{rounds_kept}
 use Rattle.rows_kept.specs.Outs.{Goes, Ends, failed, ended}
 use Rattle.rows_kept.proofs.Outs.{from_ends, goes_kept, goes_passes}
-use Rattle.rows_kept.specs.Whole.{Emitted, From, HeldThroughout, I, Read, ReadR, Rounded, RoundedB, as_given, crosses, drops, fails_at, found, gave_up, queues, reads, reduced, rounded, rounds_to, unread}
+use Rattle.rows_kept.specs.Whole.{Emitted, From, HeldThroughout, I, Read, ReadR, Rounded, RoundedB, as_given, crosses}
+use Rattle.rows_kept.specs.Whole.{drops, fails_at, found, gave_up, queues, reads, reduced, rounded, rounds_to, unread}
 
 module _ (M : Model) where
   pub round_var_lem : (v : ℕ) (b : Bounds) → RoundedB M b → RoundedB M (round_var M v b)

@@ -95,7 +95,8 @@ holds true t = refl
 holds false t = absurd (let z : ◌≡◌ {A = ℕ} 0 1 = (let y = t in cc) in omega arith)
 
 module _ {lists : Lists} {s : Context} {f : Floats} {n : Numbers} (r : ℕ) (act : Activity) {e : Activity} {b : Bool} (a : Bool) (t : not a ≡ false)
-    (ea : Reads (Spans lists.rows.starts.now) s f n e (λ M w. activity M w (row_of w r) false)) (eb : Reads (Looks lists) s f n b (λ M w. choose true (forces_min M r (row_of w r) act e w) (forces_max M r (row_of w r) act e w))) where
+    (ea : Reads (Spans lists.rows.starts.now) s f n e (λ M w. activity M w (row_of w r) false))
+    (eb : Reads (Looks lists) s f n b (λ M w. choose true (forces_min M r (row_of w r) act e w) (forces_max M r (row_of w r) act e w))) where
   reads_end : {z : Ending} → ((M : Model) (o : List ℕ) (k : ℕ) (w : Work) → Looks lists M → Call M s → Shows M f n o w → Inv M k w → end_of M r (row_of w r) act e w ≡ z)
       → Reads (Looks lists) s f n z (λ M w. end_if a (end_of M r (row_of w r) act (activity M w (row_of w r) false) w))
   unfolding end_if
@@ -161,7 +162,8 @@ module _ {tol : Float} {l : ℕ} (x : Limits) (act : Activity) {a b : Bool} (p :
 
 -- ---- several_terms
 module _ {lists : Lists} {s : Context} {f : Floats} {n : Numbers} (r : ℕ) {act : Activity} {x : Limits} {l : ℕ} {y : Result Bool Infeasible} (al : Alive n r)
-    (ea : Reads (Spans lists.rows.starts.now) s f n act (λ M w. activity M w (row_of w r) true)) (lim : ReadsLimits s f r l x) (en : l ≡ get_or lists.rows.starts.now (r + 1) 0 - get_or lists.rows.starts.now r 0)
+    (ea : Reads (Spans lists.rows.starts.now) s f n act (λ M w. activity M w (row_of w r) true)) (lim : ReadsLimits s f r l x) (en : l
+    ≡ get_or lists.rows.starts.now (r + 1) 0 - get_or lists.rows.starts.now r 0)
     (eb : Says x.feas x.terms y (λ M q. reached (unreachable M q (bare x) act) (may_reduce M q (bare x) act))) where
   reach_is : {M : Model} {o : List ℕ} {k : ℕ} {w : Work} → BoundingRows lists M → Call M s → Shows M f n o w → Inv M k w
       → y ≡ reached (unreachable M r (row_of w r) (activity M w (row_of w r) true)) (may_reduce M r (row_of w r) (activity M w (row_of w r) true))

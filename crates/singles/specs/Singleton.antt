@@ -67,7 +67,8 @@ module _ {lists : Lists} {s : Context} {f : Floats} {n : Numbers} (r v : ℕ) (a
 
 -- ---- singleton_misses
 pub misses_is : {ss : List ℕ} {s : Context} {f : Floats} (r v : ℕ) (a blo bhi : Float) {x : Limits} {l : ℕ} {e : Ends} {z : Bool} → ReadsLimits s f r l x → l ≡ get_or ss (r + 1) 0 - get_or ss r 0
-    → ReadsEnds s f v e → Says x.feas x.terms z (λ M q. misses_at M q (bare x) a blo bhi e.lo e.hi e.tol_lo e.tol_hi) → ReadsRow (Spans ss) s f r z (λ M w. singleton_misses M r (row_of w r) v a blo bhi w)
+    → ReadsEnds s f v e → Says x.feas x.terms z (λ M q. misses_at M q (bare x) a blo bhi e.lo e.hi e.tol_lo e.tol_hi)
+    → ReadsRow (Spans ss) s f r z (λ M w. singleton_misses M r (row_of w r) v a blo bhi w)
 misses_is r v a blo bhi lim en e ez =
     record {
       reads = λ n al.

@@ -6,7 +6,9 @@ ghost use Rattle.std.proofs.Common.{arith};
 ghost use Rattle.std.specs.Prelude.{◌≡◌, ◌+◌, ◌*◌, slice_index_or};
 ghost use Rattle.std.specs.Float.{nan};
 ghost use Rattle.space.specs.Store.{floats_of, HoldsF, put_wlo, put_whi, put_elo, put_ehi, put_lo, put_hi, put_fold_scale, put_shift, put_written, put_rewritten, put_kept, put_bound, put_coeffs};
-ghost use Rattle.space.specs.Blocks.{bound_at, bound_put, coeffs_at, coeffs_put, ehi_at, ehi_put, elo_at, elo_put, fold_scale_at, fold_scale_put, hi_at, hi_put, kept_at, kept_put, lo_at, lo_put, rewritten_at_lem, rewritten_put, shift_at, shift_put, whi_at, whi_put, wlo_at, wlo_put, written_at, written_put};
+ghost use Rattle.space.specs.Blocks.{bound_at, bound_put, coeffs_at, coeffs_put, ehi_at, ehi_put, elo_at, elo_put, fold_scale_at, fold_scale_put, hi_at, hi_put, kept_at};
+ghost use Rattle.space.specs.Blocks.{kept_put, lo_at, lo_put, rewritten_at_lem, rewritten_put, shift_at, shift_put, whi_at, whi_put, wlo_at, wlo_put, written_at};
+ghost use Rattle.space.specs.Blocks.{written_put};
 
 use crate::Context;
 use crate::field::Field;

@@ -5,8 +5,12 @@
 // A flag is 0 or 1, since the caller lends a slice of numbers.
 ghost use Rattle.std.proofs.Common.{arith};
 ghost use Rattle.std.specs.Prelude.{◌≡◌, ◌+◌, ◌*◌, slice_index};
-ghost use Rattle.space.specs.Store.{numbers_of, HoldsN, put_queued, put_dropped, put_tightened, put_fixed, put_rewrote, put_passes, put_dirty, put_coeff_dirty, put_queue, put_wave, put_len, put_folded, put_alive, put_touched, put_binaries, put_fate, put_slot, put_bad_dec, put_bad_inc, put_vars, put_binary};
-ghost use Rattle.space.specs.Blocks.{alive_at_lem, alive_put, bad_dec_at, bad_dec_put, bad_inc_at, bad_inc_put, binaries_at, binaries_put, binary_at_lem, binary_put, coeff_dirty_at, coeff_dirty_put, dirty_at, dirty_put, dropped_at, dropped_put, fate_at, fate_put, fixed_at_lem, fixed_put, folded_at, folded_put, len_at, len_put, passes_at, passes_put, queue_at, queue_put, queued_at, queued_put, rewrote_at, rewrote_put, slot_at, slot_put, tightened_at, tightened_put, touched_at, touched_put, vars_at, vars_put, wave_at, wave_put};
+ghost use Rattle.space.specs.Store.{numbers_of, HoldsN, put_queued, put_dropped, put_tightened, put_fixed, put_rewrote, put_passes, put_dirty, put_coeff_dirty, put_queue};
+ghost use Rattle.space.specs.Store.{put_wave, put_len, put_folded, put_alive, put_touched, put_binaries, put_fate, put_slot, put_bad_dec, put_bad_inc, put_vars, put_binary};
+ghost use Rattle.space.specs.Blocks.{alive_at_lem, alive_put, bad_dec_at, bad_dec_put, bad_inc_at, bad_inc_put, binaries_at, binaries_put, binary_at_lem, binary_put};
+ghost use Rattle.space.specs.Blocks.{coeff_dirty_at, coeff_dirty_put, dirty_at, dirty_put, dropped_at, dropped_put, fate_at, fate_put, fixed_at_lem, fixed_put, folded_at};
+ghost use Rattle.space.specs.Blocks.{folded_put, len_at, len_put, passes_at, passes_put, queue_at, queue_put, queued_at, queued_put, rewrote_at, rewrote_put, slot_at};
+ghost use Rattle.space.specs.Blocks.{slot_put, tightened_at, tightened_put, touched_at, touched_put, vars_at, vars_put, wave_at, wave_put};
 
 use crate::Context;
 use crate::field::Field;

@@ -35,7 +35,8 @@ module _ (M : Model) {n k : ℕ} where
   rewrite_all {b = b} (suc m) f nz r i s h p = rewrite_all {b = suc b} m f nz r (suc i) _ (omega arith) (rewrite_one f nz r i s p)
 
 module _ (M : Model) (A : AllShort M) {n k : ℕ} where
-  form_all : {b : ℕ} (f : Form) (r : ℕ) (row : Row) (w : Work) (changed : Bool) → form_of row ≡ f → Sided f → RowShort row → Tallied n k b w → Tallied n k (b + 65536) (tighten_form M f r row w changed).0
+  form_all : {b : ℕ} (f : Form) (r : ℕ) (row : Row) (w : Work) (changed : Bool) → form_of row ≡ f → Sided f → RowShort row → Tallied n k b w
+      → Tallied n k (b + 65536) (tighten_form M f r row w changed).0
   unfolding tighten_form
   form_all {b} f r row w changed e sided s p =
       let act : Activity = activity M w row true in

@@ -71,7 +71,8 @@ module _ (M : Model) (A : AllShort M) where
   as_written_lem : (r : ℕ) → RowShort (as_written M r)
   as_written_lem r = (short_kept M A r).folding.as_written_lem
 
-  add_row_lem : (r : ℕ) (rows : List Row) (queue : List ℕ) (dirty : List Bool) (m : ℕ) (o : Option Bool) → TallyHolds r 0 r (counts m 0 0 0 0) dirty queue rows → Begun (suc r) (add_row M r rows queue dirty m o)
+  add_row_lem : (r : ℕ) (rows : List Row) (queue : List ℕ) (dirty : List Bool) (m : ℕ) (o : Option Bool) → TallyHolds r 0 r (counts m 0 0 0 0) dirty queue rows
+      → Begun (suc r) (add_row M r rows queue dirty m o)
   unfolding add_row
   add_row_lem r rows queue dirty m none h =
       read (one_more true (queue ++ (r ∷ [])) _ (at_most (omega arith) h.counts) (omega (arith, h.room, marked_true dirty, length-append queue (r ∷ []))) (as_written_lem r) h)

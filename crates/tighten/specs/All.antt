@@ -30,7 +30,8 @@ pub tighten_keeps : {P : Model → Type 0} {s : Context} → KeepsBool P s (λ M
 tighten_keeps = record { keeps = λ M k w p c i. inv_tighten c w i }
 
 -- ---- what is left from row r on
-from_next : (M : Model) (j i r q : ℕ) (w : Work) (changed : Bool) → i ≡ suc j → q ≡ suc r → tighten_from M j q (tighten_row M r w changed).0 (tighten_row M r w changed).1 ≡ tighten_from M i r w changed
+from_next : (M : Model) (j i r q : ℕ) (w : Work) (changed : Bool) → i ≡ suc j → q ≡ suc r → tighten_from M j q (tighten_row M r w changed).0 (tighten_row M r w changed).1
+    ≡ tighten_from M i r w changed
 unfolding tighten_from
 from_next M j i r q w changed e g = rw (e, g) refl
 

@@ -74,8 +74,10 @@ pub(crate) fn row_after(
     t: LiveTerm,
     z: Option<Rewrite>,
 )
-    requires r_lt_rows { (r < cx.rows) × HoldsF cx floats.old × HoldsN cx numbers.old × Alive (numbers_of cx numbers.old) r × (t.place < get_or (numbers_of cx numbers.old).len r 0) × Nonzero (maybe_rewrite z) }
-    requires v_value { (t.var ≡ get_or (numbers_of cx numbers.old).vars (get_or starts.now r 0 + t.place) 0) × (t.coeff ≡ get_or (floats_of cx floats.old).coeffs (get_or starts.now r 0 + t.place) nan) }
+    requires r_lt_rows { (r < cx.rows) × HoldsF cx floats.old × HoldsN cx numbers.old × Alive (numbers_of cx numbers.old) r
+        × (t.place < get_or (numbers_of cx numbers.old).len r 0) × Nonzero (maybe_rewrite z) }
+    requires v_value { (t.var ≡ get_or (numbers_of cx numbers.old).vars (get_or starts.now r 0 + t.place) 0)
+        × (t.coeff ≡ get_or (floats_of cx floats.old).coeffs (get_or starts.now r 0 + t.place) nan) }
     requires ready { Ready (Spans starts.now) cx (floats_of cx floats.old) (numbers_of cx numbers.old) }
     ensures { Acts (Spans starts.now) cx (floats_of cx floats.old) (numbers_of cx numbers.old) (floats_of cx floats.new)
         (numbers_of cx numbers.new) (λ M u. with_row r (row_after M (maybe_form form) u (row_of u r) t.place (term t.var t.coeff) (maybe_rewrite z)) u) }

@@ -127,7 +127,8 @@ pub(crate) fn rewrite_binding(
     b: f64,
     bp: f64,
 ) -> f64
-    requires r_lt_rows { (r < cx.rows) × HoldsF cx floats.old × HoldsN cx numbers.old × Alive (numbers_of cx numbers.old) r × LiveAt starts.now (floats_of cx floats.old) (numbers_of cx numbers.old) r t.var }
+    requires r_lt_rows { (r < cx.rows) × HoldsF cx floats.old × HoldsN cx numbers.old × Alive (numbers_of cx numbers.old) r
+        × LiveAt starts.now (floats_of cx floats.old) (numbers_of cx numbers.old) r t.var }
     requires ready { Ready (Spans starts.now) cx (floats_of cx floats.old) (numbers_of cx numbers.old) }
     ensures acts { Acts (Spans starts.now) cx (floats_of cx floats.old) (numbers_of cx numbers.old) (floats_of cx floats.new)
         (numbers_of cx numbers.new) (λ M u. with_row r (rebound r t.var t.coeff b bp M u) u) }

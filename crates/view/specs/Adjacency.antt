@@ -81,7 +81,8 @@ module _ {s : Context} {adjacency : List ℕ} {n : Numbers} {v : ℕ} (R : Ready
   adj_rows {a} {e} ea ee =
       let c = R.ready.call in
       let xa : a ≡ suc (length M₀.lower) + get_or adjacency v 0 = omega (arith, ea, c.vars) in
-      let xe : e ≡ suc (length M₀.lower) + get_or adjacency (suc v) 0 = let z : get_or adjacency (v + 1) 0 ≡ get_or adjacency (suc v) 0 = ap (λ (j : ℕ). get_or adjacency j 0) (add-one v) in omega (arith, ee, z, c.vars) in
+      let xe : e ≡ suc (length M₀.lower) + get_or adjacency (suc v) 0 = let z : get_or adjacency (v + 1) 0
+      ≡ get_or adjacency (suc v) 0 = ap (λ (j : ℕ). get_or adjacency j 0) (add-one v) in omega (arith, ee, z, c.vars) in
       let z : slice a e adjacency ≡ adjacent_rows M₀ v = rw (xa, xe) (R.ready.known.rows v in_vars) in
       rw z (record { below = λ i q. let y = adjacent_below M₀ (length M₀.rhs) 0 v i q in omega (arith, y, c.rows) })
 
@@ -91,7 +92,8 @@ var_end {s} {adjacency} {n} {n'} {v} {a} {e} p ea ee t =
     record {
       does = λ M f o k w x c h i.
           let xa : a ≡ suc (length M.lower) + get_or adjacency v 0 = omega (arith, ea, c.vars) in
-          let xe : e ≡ suc (length M.lower) + get_or adjacency (suc v) 0 = let z : get_or adjacency (v + 1) 0 ≡ get_or adjacency (suc v) 0 = ap (λ (j : ℕ). get_or adjacency j 0) (add-one v) in omega (arith, ee, z, c.vars) in
+          let xe : e ≡ suc (length M.lower) + get_or adjacency (suc v) 0 = let z : get_or adjacency (v + 1) 0
+          ≡ get_or adjacency (suc v) 0 = ap (λ (j : ℕ). get_or adjacency j 0) (add-one v) in omega (arith, ee, z, c.vars) in
           let z : slice a e adjacency ≡ adjacent_rows M v = rw (xa, xe) (x.rows v (omega (arith, p, c.vars))) in
           let y : mark_all (slice a e adjacency) w ≡ mark_var M v w = ap (λ (l : List ℕ). mark_all l w) z ∙ sym (mark_var_all M v w) in
           subst (λ (u : Work). Shows M f n' o u) y (t.does M f o k w tt c h i);

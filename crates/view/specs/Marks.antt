@@ -187,7 +187,8 @@ module _ {s : Context} {adjacency : List ℕ} {a e i : ℕ} {n₀ n : Numbers} (
   rows_row {r} p q =
       let b : i - a < length (slice a e adjacency) = let z = length-slice a e adjacency v.long in omega (arith, z, p, v.from) in
       let j : a + (i - a) ≡ i = omega (arith, v.from) in
-      let x : get_or (slice a e adjacency) (i - a) 0 ≡ get_or adjacency i 0 = get_or-drop a (take e adjacency) (i - a) 0 ∙ ap (λ (k : ℕ). get_or (take e adjacency) k 0) j ∙ get_or-take e adjacency i 0 p in
+      let x : get_or (slice a e adjacency) (i - a) 0 ≡ get_or adjacency i 0 = get_or-drop a (take e adjacency) (i - a) 0 ∙ ap (λ (k : ℕ). get_or (take e adjacency) k 0) j
+      ∙ get_or-take e adjacency i 0 p in
       omega (arith, q, x, v.rows.below (i - a) b)
 
   pub rows_turn : {r : ℕ} {n' : Numbers} → i < e → r ≡ get_or adjacency i 0 → ActsN Any s n n' (λ M. mark_row r) → RowsInv s adjacency a e (i + 1) n₀ n'

@@ -14,7 +14,11 @@ returns-in_err-begin c = let e = sym (stop_is c.from_residual.result c.from_resi
 }
 
 pub rounds-requires : goal.rounds-requires
-rounds-requires c = record { holds_f = (omega (arith, c.begin.auto, c.requires.holds_f.0), omega (arith, c.begin.auto, c.requires.holds_f.1)); ready = ready_rounds _ (begins_is c.begin.ensures c.in_ok-begin.was) c.requires.given }
+rounds-requires c = record {
+  holds_f = (omega (arith, c.begin.auto, c.requires.holds_f.0), omega (arith, c.begin.auto, c.requires.holds_f.1));
+  ready = ready_rounds _
+      (begins_is c.begin.ensures c.in_ok-begin.was) c.requires.given;
+}
 
 pub settle_rows-requires : goal.settle_rows-requires
 settle_rows-requires c = record {

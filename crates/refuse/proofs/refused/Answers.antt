@@ -17,7 +17,11 @@ pub returns-then-starts_wrong : goal.returns-then-starts_wrong
 returns-then-starts_wrong c = search (by_table, skip, stop)
 
 pub indices_wrong-requires : goal.indices_wrong-requires
-indices_wrong-requires c = record { starts_len = (lengths_agree _ (sym c.lengths_disagree.ensures ∙ c.if-lengths_disagree.false)).starts; rhs_value = sym c.starts_wrong.ensures ∙ c.if-starts_wrong.false }
+indices_wrong-requires c = record {
+  starts_len = (lengths_agree _ (sym c.lengths_disagree.ensures ∙ c.if-lengths_disagree.false)).starts;
+  rhs_value = sym c.starts_wrong.ensures
+      ∙ c.if-starts_wrong.false;
+}
 
 pub returns-then-indices_wrong : goal.returns-then-indices_wrong
 returns-then-indices_wrong c = search (by_table, skip, stop)

@@ -7,8 +7,10 @@ use Rattle.whole_numbers.proofs.ask.Goals as goal
 
 pub returns-in-Some : goal.returns-in-Some
 returns-in-Some g c = λ p h.
-    let k : (0 ≤ c.in-Some.place) × (c.in-Some.place < c.args.places) × (c.in-Some.place < 18446744073709551616 → p c.in-Some.place ≡ true) × ((j : ℕ) → 0 ≤ j → j < c.in-Some.place → j < 18446744073709551616 → p j ≡ false) =
-    first_from_Range (record { start = 0; end = c.args.places }) _ _ (Some c.in-Some.place) (λ i. i < 18446744073709551616 → p i ≡ true) (λ i. i < 18446744073709551616 → p i ≡ false) c.in-Some.ensures.ran
+    let k : (0 ≤ c.in-Some.place) × (c.in-Some.place < c.args.places) × (c.in-Some.place < 18446744073709551616 → p c.in-Some.place ≡ true)
+    × ((j : ℕ) → 0 ≤ j → j < c.in-Some.place → j < 18446744073709551616 → p j ≡ false) =
+    first_from_Range (record { start = 0; end = c.args.places }) _ _ (Some c.in-Some.place) (λ i. i < 18446744073709551616 → p i ≡ true) (λ i. i < 18446744073709551616 → p i
+    ≡ false) c.in-Some.ensures.ran
     (λ x q t l. sym (h x true l (search rules))) (λ x q t. (search rules, λ l. sym (h x false l (search rules)))) in
     let l : c.args.places < 18446744073709551616 = search rules in
     (refl, (first_is p c.args.places 0 c.in-Some.place (omega arith) (omega (arith, k.1)) (k.2 (omega (arith, l, k.1))) (λ j a b. k.3 j a b (omega (arith, l, b, k.1))), k.1))

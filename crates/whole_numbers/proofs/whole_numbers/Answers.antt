@@ -11,20 +11,23 @@ use Rattle.whole_numbers.proofs.whole_numbers.Goals as goal
 
 pub returns-in_err-ask : goal.returns-in_err-ask
 returns-in_err-ask c =
-    let M = (numbers_of c.args.input.lower.now c.args.input.upper.now c.args.input.domain.now c.args.input.rows.starts.now c.args.input.rows.index.now c.args.input.rows.coeff.now c.args.input.rows.rhs.now c.args.input.mode c.args.input.feas c.args.input.int_tol) in
+    let M = (numbers_of c.args.input.lower.now c.args.input.upper.now c.args.input.domain.now c.args.input.rows.starts.now c.args.input.rows.index.now
+    c.args.input.rows.coeff.now c.args.input.rows.rhs.now c.args.input.mode c.args.input.feas c.args.input.int_tol) in
     let e : c.from_residual.result ≡ Err c.in_err-ask.field-0.0 = search rules in
     ap numbers_is e ∙ domains_fail M (c.in_err-ask.ensures _ (λ i b l q. search rules))
 
 pub returns-in_err-ask-2 : goal.returns-in_err-ask-2
 returns-in_err-ask-2 c =
-    let M = (numbers_of c.args.input.lower.now c.args.input.upper.now c.args.input.domain.now c.args.input.rows.starts.now c.args.input.rows.index.now c.args.input.rows.coeff.now c.args.input.rows.rhs.now c.args.input.mode c.args.input.feas c.args.input.int_tol) in
+    let M = (numbers_of c.args.input.lower.now c.args.input.upper.now c.args.input.domain.now c.args.input.rows.starts.now c.args.input.rows.index.now
+    c.args.input.rows.coeff.now c.args.input.rows.rhs.now c.args.input.mode c.args.input.feas c.args.input.int_tol) in
     let s1 = domains_hold M (c.in_ok-ask.ensures _ (λ i b l q. search rules)) in
     let e : c.from_residual-in_err-ask-2.result ≡ Err c.in_err-ask-2.field-0.0 = search rules in
     ap numbers_is e ∙ bounds_fail M s1 (c.in_err-ask-2.ensures _ (λ i b l q. search rules))
 
 pub returns-in_err-ask-3 : goal.returns-in_err-ask-3
 returns-in_err-ask-3 c =
-    let M = (numbers_of c.args.input.lower.now c.args.input.upper.now c.args.input.domain.now c.args.input.rows.starts.now c.args.input.rows.index.now c.args.input.rows.coeff.now c.args.input.rows.rhs.now c.args.input.mode c.args.input.feas c.args.input.int_tol) in
+    let M = (numbers_of c.args.input.lower.now c.args.input.upper.now c.args.input.domain.now c.args.input.rows.starts.now c.args.input.rows.index.now
+    c.args.input.rows.coeff.now c.args.input.rows.rhs.now c.args.input.mode c.args.input.feas c.args.input.int_tol) in
     let s1 = domains_hold M (c.in_ok-ask.ensures _ (λ i b l q. search rules)) in
     let s2 = bounds_hold M s1 (c.in_ok-ask-2.ensures _ (λ i b l q. search rules)) in
     let e : c.from_residual-in_err-ask-3.result ≡ Err c.in_err-ask-3.field-0.0 = search rules in
@@ -32,7 +35,8 @@ returns-in_err-ask-3 c =
 
 pub returns-in_err-ask-4 : goal.returns-in_err-ask-4
 returns-in_err-ask-4 c =
-    let M = (numbers_of c.args.input.lower.now c.args.input.upper.now c.args.input.domain.now c.args.input.rows.starts.now c.args.input.rows.index.now c.args.input.rows.coeff.now c.args.input.rows.rhs.now c.args.input.mode c.args.input.feas c.args.input.int_tol) in
+    let M = (numbers_of c.args.input.lower.now c.args.input.upper.now c.args.input.domain.now c.args.input.rows.starts.now c.args.input.rows.index.now
+    c.args.input.rows.coeff.now c.args.input.rows.rhs.now c.args.input.mode c.args.input.feas c.args.input.int_tol) in
     let s1 = domains_hold M (c.in_ok-ask.ensures _ (λ i b l q. search rules)) in
     let s2 = bounds_hold M s1 (c.in_ok-ask-2.ensures _ (λ i b l q. search rules)) in
     let s3 = coefficients_hold M s2 (c.in_ok-ask-3.ensures _ (λ i b l q. let e : b ≡ beyond COEFF c.args.input.rows.coeff.now i = search rules in e ∙ beyond_at COEFF 32768 coeff_is _ i)) in
@@ -41,7 +45,8 @@ returns-in_err-ask-4 c =
 
 pub returns-in_err-ask-5 : goal.returns-in_err-ask-5
 returns-in_err-ask-5 c =
-    let M = (numbers_of c.args.input.lower.now c.args.input.upper.now c.args.input.domain.now c.args.input.rows.starts.now c.args.input.rows.index.now c.args.input.rows.coeff.now c.args.input.rows.rhs.now c.args.input.mode c.args.input.feas c.args.input.int_tol) in
+    let M = (numbers_of c.args.input.lower.now c.args.input.upper.now c.args.input.domain.now c.args.input.rows.starts.now c.args.input.rows.index.now
+    c.args.input.rows.coeff.now c.args.input.rows.rhs.now c.args.input.mode c.args.input.feas c.args.input.int_tol) in
     let s1 = domains_hold M (c.in_ok-ask.ensures _ (λ i b l q. search rules)) in
     let s2 = bounds_hold M s1 (c.in_ok-ask-2.ensures _ (λ i b l q. search rules)) in
     let s3 = coefficients_hold M s2 (c.in_ok-ask-3.ensures _ (λ i b l q. let e : b ≡ beyond COEFF c.args.input.rows.coeff.now i = search rules in e ∙ beyond_at COEFF 32768 coeff_is _ i)) in
@@ -51,7 +56,8 @@ returns-in_err-ask-5 c =
 
 pub returns-in_err-ask-6 : goal.returns-in_err-ask-6
 returns-in_err-ask-6 c =
-    let M = (numbers_of c.args.input.lower.now c.args.input.upper.now c.args.input.domain.now c.args.input.rows.starts.now c.args.input.rows.index.now c.args.input.rows.coeff.now c.args.input.rows.rhs.now c.args.input.mode c.args.input.feas c.args.input.int_tol) in
+    let M = (numbers_of c.args.input.lower.now c.args.input.upper.now c.args.input.domain.now c.args.input.rows.starts.now c.args.input.rows.index.now
+    c.args.input.rows.coeff.now c.args.input.rows.rhs.now c.args.input.mode c.args.input.feas c.args.input.int_tol) in
     let s1 = domains_hold M (c.in_ok-ask.ensures _ (λ i b l q. search rules)) in
     let s2 = bounds_hold M s1 (c.in_ok-ask-2.ensures _ (λ i b l q. search rules)) in
     let s3 = coefficients_hold M s2 (c.in_ok-ask-3.ensures _ (λ i b l q. let e : b ≡ beyond COEFF c.args.input.rows.coeff.now i = search rules in e ∙ beyond_at COEFF 32768 coeff_is _ i)) in
@@ -63,7 +69,8 @@ returns-in_err-ask-6 c =
 pub returns : goal.returns
 unfolding mode_off
 returns c =
-    let M = (numbers_of c.args.input.lower.now c.args.input.upper.now c.args.input.domain.now c.args.input.rows.starts.now c.args.input.rows.index.now c.args.input.rows.coeff.now c.args.input.rows.rhs.now c.args.input.mode c.args.input.feas c.args.input.int_tol) in
+    let M = (numbers_of c.args.input.lower.now c.args.input.upper.now c.args.input.domain.now c.args.input.rows.starts.now c.args.input.rows.index.now
+    c.args.input.rows.coeff.now c.args.input.rows.rhs.now c.args.input.mode c.args.input.feas c.args.input.int_tol) in
     let s1 = domains_hold M (c.in_ok-ask.ensures _ (λ i b l q. search rules)) in
     let s2 = bounds_hold M s1 (c.in_ok-ask-2.ensures _ (λ i b l q. search rules)) in
     let s3 = coefficients_hold M s2 (c.in_ok-ask-3.ensures _ (λ i b l q. let e : b ≡ beyond COEFF c.args.input.rows.coeff.now i = search rules in e ∙ beyond_at COEFF 32768 coeff_is _ i)) in

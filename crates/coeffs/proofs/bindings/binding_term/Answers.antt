@@ -22,7 +22,10 @@ pub written_coeff-x-requires : goal.written_coeff-x-requires
 written_coeff-x-requires c = search ready_written
 
 pub row_coeff-y-requires : goal.row_coeff-y-requires
-row_coeff-y-requires c = record { r_lt_rows = search rules; ready_term = over_term c.requires.ready written_spans c.requires.r_lt_rows.0 c.requires.r_lt_rows.3 refl c.requires.r_lt_rows.4 c.get-v.ensures }
+row_coeff-y-requires c = record {
+  r_lt_rows = search rules;
+  ready_term = over_term c.requires.ready written_spans c.requires.r_lt_rows.0 c.requires.r_lt_rows.3 refl c.requires.r_lt_rows.4 c.get-v.ensures;
+}
 
 pub returns : goal.returns
 returns c = bind_term _ c.requires.r_lt_rows.0 c.requires.r_lt_rows.3 _ c.requires.r_lt_rows.4 c.get-v.ensures c.written_coeff-x.ensures c.add.ensures

@@ -6,7 +6,8 @@ use Rattle.folds.specs.Stands.{turns_under}
 use Rattle.folds.specs.Holding.{in_spans, after_loop, after_relax, after_written, loop_weight, written_weight}
 use Rattle.folds.specs.Holding.{hold_none, hold_lo, hold_hi, hold_back, fold_less, fold_more}
 use Rattle.folds.proofs.holding.+fold_fixed_hold_rewrites.Goals as goal
-use Rattle.folds.proofs.holding.+fold_fixed_hold_rewrites.Goals.{hold_rewrites-then-get-eq0-via-then-get-eq0, hold_rewrites-then-get-eq0-via-else-get-eq0+then-is_finite, hold_rewrites-then-get-eq0-via-else-get-eq0+else-is_finite+then-is_finite-2}
+use Rattle.folds.proofs.holding.+fold_fixed_hold_rewrites.Goals.{hold_rewrites-then-get-eq0-via-then-get-eq0, hold_rewrites-then-get-eq0-via-else-get-eq0+then-is_finite}
+use Rattle.folds.proofs.holding.+fold_fixed_hold_rewrites.Goals.{hold_rewrites-then-get-eq0-via-else-get-eq0+else-is_finite+then-is_finite-2}
 
 pub fold_fixed-relax_binding-requires-clause-standing : goal.fold_fixed-relax_binding-requires-clause-standing
 fold_fixed-relax_binding-requires-clause-standing t c = in_spans (after_loop c.requires.standing c.fold_loop.ensures)

@@ -28,7 +28,10 @@ pub get-c-requires : goal.get-c-requires
 get-c-requires c = search (still_place, fixing_rows, marks_spans, rules)
 
 pub fix_term-requires : goal.fix_term-requires
-fix_term-requires c = record { v_lt_vars = (search (still_var, fixing_rows, marks_spans), omega arith, omega arith); ready = ready_under marks_adj (turning_ready c.requires.ready c.loop-i.invariant.2) }
+fix_term-requires c = record {
+  v_lt_vars = (search (still_var, fixing_rows, marks_spans), omega arith, omega arith);
+  ready = ready_under marks_adj (turning_ready c.requires.ready c.loop-i.invariant.2);
+}
 
 pub loop-i-preserved : goal.loop-i-preserved
 loop-i-preserved c = (

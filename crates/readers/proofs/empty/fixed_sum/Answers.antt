@@ -33,7 +33,8 @@ module _ (is : List ℕ) (cs : List Float) (s : Context) (f : Floats) (a e : ℕ
   starts {sum} l d = let n : a ≡ a + 0 = omega arith in subst (λ i. Summing is cs s f a e b i sum) n (sum_start l d)
 
   module _ (k : ℕ) {sum : RowSum} (S : Summing is cs s f a e b (a + k) sum) where
-    turns : {v j : ℕ} {c x : Float} {sum' : RowSum} → e ≤ length is → e ≤ length cs → k < length (part is a e) → k < length (part cs a e) → v ≡ get_or (part is a e) k 0 → c ≡ get_or (part cs a e) k nan
+    turns : {v j : ℕ} {c x : Float} {sum' : RowSum} → e ≤ length is → e ≤ length cs → k < length (part is a e) → k < length (part cs a e) → v ≡ get_or (part is a e) k 0 → c
+        ≡ get_or (part cs a e) k nan
         → ReadsF Any s f x (λ M u. fixed_value u v) → sum_of sum' ≡ row_term (sum_of sum) c x → j ≡ k + 1 → Summing is cs s f a e b (a + j) sum'
     turns {v} {j} {c} {x} {sum'} p q m n ev ec R d ej =
         let i : a + k + 1 ≡ a + j = omega (arith, ej) in
@@ -52,7 +53,8 @@ fixed_value-requires c =
     let e = get_or c.args.rows.starts.now (c.args.r + 1) 0 in
     let index = c.args.rows.index.now in
     let k = length c.loop-v.yielded in
-    let z = zip_turn (part index a e) (part c.args.rows.coeff.now a e) c.loop-v.yielded c.into_iter-v-iterator.result c.loop-v.v-iterator c.next.new.self c.next.result (cc) (cc) c.loop-v.yielded_by (c.in-Some.v, c.in-Some.coeff) c.in-Some.is c.next.ensures.steps in
+    let z = zip_turn (part index a e) (part c.args.rows.coeff.now a e) c.loop-v.yielded c.into_iter-v-iterator.result c.loop-v.v-iterator c.next.new.self c.next.result (cc)
+    (cc) c.loop-v.yielded_by (c.in-Some.v, c.in-Some.coeff) c.in-Some.is c.next.ensures.steps in
     (omega (arith, z.2 0, there index a e k z.0 0, c.requires.span.0.below.below (a + k) (inside index a e k z.0)), c.requires.span.1)
 
 pub loop-v-preserved : goal.loop-v-preserved
@@ -63,13 +65,16 @@ loop-v-preserved c =
     let index = c.args.rows.index.now in
     let coeff = c.args.rows.coeff.now in
     let k = length c.loop-v.yielded in
-    let z = zip_turn (part index a e) (part coeff a e) c.loop-v.yielded c.into_iter-v-iterator.result c.loop-v.v-iterator c.next.new.self c.next.result (cc) (cc) c.loop-v.yielded_by (c.in-Some.v, c.in-Some.coeff) c.in-Some.is c.next.ensures.steps in
-    turns _ _ _ _ _ _ _ k c.loop-v.invariant x.indices (omega (arith, x.indices, x.coeffs)) z.0 z.1 (z.2 0) (z.3 nan) c.fixed_value.ensures c.with-sum.ensures (length-append c.loop-v.yielded ((c.in-Some.v, c.in-Some.coeff) ∷ []))
+    let z = zip_turn (part index a e) (part coeff a e) c.loop-v.yielded c.into_iter-v-iterator.result c.loop-v.v-iterator c.next.new.self c.next.result (cc)
+    (cc) c.loop-v.yielded_by (c.in-Some.v, c.in-Some.coeff) c.in-Some.is c.next.ensures.steps in
+    turns _ _ _ _ _ _ _ k c.loop-v.invariant x.indices (omega (arith, x.indices, x.coeffs)) z.0 z.1 (z.2 0) (z.3 nan) c.fixed_value.ensures c.with-sum.ensures
+    (length-append c.loop-v.yielded ((c.in-Some.v, c.in-Some.coeff) ∷ []))
 
 pub returns : goal.returns
 returns c =
     let x = c.requires.span.0 in
     let a = get_or c.args.rows.starts.now c.args.r 0 in
     let e = get_or c.args.rows.starts.now (c.args.r + 1) 0 in
-    let n = zip_end (part c.args.rows.index.now a e) (part c.args.rows.coeff.now a e) c.loop-v.yielded c.into_iter-v-iterator.result c.loop-v.v-iterator c.next.new.self c.next.result (cc) (cc) c.loop-v.yielded_by c.in-None.is c.next.ensures.steps in
+    let n = zip_end (part c.args.rows.index.now a e) (part c.args.rows.coeff.now a e) c.loop-v.yielded c.into_iter-v-iterator.result
+    c.loop-v.v-iterator c.next.new.self c.next.result (cc) (cc) c.loop-v.yielded_by c.in-None.is c.next.ensures.steps in
     ends _ _ _ _ _ _ _ (length c.loop-v.yielded) c.loop-v.invariant x.indices (omega (arith, x.indices, x.coeffs)) n

@@ -9,7 +9,11 @@ pub returns-in-None : goal.returns-in-None
 returns-in-None c = after_same c.args.r c.args.t.place c.args.t.var c.args.t.coeff (maybe_form c.args.form) c.in-None.is c.requires.r_lt_rows.0 c.requires.r_lt_rows.3
 
 pub set_coeff-requires : goal.set_coeff-requires
-set_coeff-requires c = record { r_in_bounds = set_place (record { row = c.requires.r_lt_rows.0; alive = c.requires.r_lt_rows.3; live = c.requires.r_lt_rows.4; var = c.requires.v_value.0 }) c.requires.ready; holds_f = search rules }
+set_coeff-requires c = record {
+  r_in_bounds = set_place (record { row = c.requires.r_lt_rows.0; alive = c.requires.r_lt_rows.3; live = c.requires.r_lt_rows.4; var = c.requires.v_value.0 })
+      c.requires.ready;
+  holds_f = search rules;
+}
 
 pub returns-in-None-bound : goal.returns-in-None-bound
 returns-in-None-bound c = after_some c.args.r c.args.t.place c.args.t.var c.args.t.coeff (maybe_form c.args.form) c.in-Some.is

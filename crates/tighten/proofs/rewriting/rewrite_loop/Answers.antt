@@ -14,7 +14,8 @@ pub rewrite_step-requires : goal.rewrite_step-requires
 rewrite_step-requires c = record { r_lt_rows = (search rules, omega arith, omega arith, search rules, search rules); ready = search rules }
 
 pub returns-in_default : goal.returns-in_default
-returns-in_default c = at_back c.requires.r_lt_rows.0 c.loop-i.invariant (omega arith) (carries_left _ (carries_before _ _ _ _ _ (carries_none _ (not_some _ c.in_default.not-Some) c.rewrite_step.ensures))) refl
+returns-in_default c = at_back c.requires.r_lt_rows.0 c.loop-i.invariant (omega arith)
+    (carries_left _ (carries_before _ _ _ _ _ (carries_none _ (not_some _ c.in_default.not-Some) c.rewrite_step.ensures))) refl
 
 pub loop-i-preserved : goal.loop-i-preserved
 loop-i-preserved c = at_next c.requires.r_lt_rows.0 c.loop-i.invariant (omega arith) (carries_before _ _ _ _ _ (carries_some _ c.in-Some.is c.rewrite_step.ensures)) refl

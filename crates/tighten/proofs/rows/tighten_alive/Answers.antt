@@ -7,7 +7,10 @@ use borrow.Author.Rules.{rules}
 use Rattle.tighten.proofs.rows.tighten_alive.Goals as goal
 
 pub tighten_form-requires : goal.tighten_form-requires
-tighten_form-requires c = record { r_lt_rows = (search rules, search rules, omega arith, looked_live _ c.put.ensures c.requires.ready c.requires.r_lt_rows.3); ready = looked_ready _ c.put.ensures c.requires.ready }
+tighten_form-requires c = record {
+  r_lt_rows = (search rules, search rules, omega arith, looked_live _ c.put.ensures c.requires.ready c.requires.r_lt_rows.3);
+  ready = looked_ready _ c.put.ensures c.requires.ready;
+}
 
 pub returns-in-Some : goal.returns-in-Some
 returns-in-Some c = alive_form _ c.put.ensures c.requires.r_lt_rows.3 c.limits_with_terms-limits.ensures c.form.ensures _ (ap maybe_form c.in-Some.is) c.tighten_form.ensures

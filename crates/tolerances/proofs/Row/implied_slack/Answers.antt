@@ -12,7 +12,8 @@ use Rattle.tolerances.proofs.Row.implied_slack.Goals as goal
 pub loop-v-preserved : goal.loop-v-preserved
 loop-v-preserved c = let x = at c.args.values.now in let index = c.args.self.index.now in let coeff = c.args.self.coeff.now in
     let i = length c.loop-v.yielded in let s = sum_of c.loop-v.row in
-    let z = zip_turn index coeff c.loop-v.yielded c.into_iter-v-iterator.result c.loop-v.v-iterator c.next.new.self c.next.result (cc) (cc) c.loop-v.yielded_by (c.in-Some.v, c.in-Some.a) c.in-Some.is c.next.ensures.steps in
+    let z = zip_turn index coeff c.loop-v.yielded c.into_iter-v-iterator.result c.loop-v.v-iterator c.next.new.self c.next.result (cc) (cc) c.loop-v.yielded_by
+    (c.in-Some.v, c.in-Some.a) c.in-Some.is c.next.ensures.steps in
     ap (Left x index coeff (sum_of c.with-row.result)) (length-append c.loop-v.yielded ((c.in-Some.v, c.in-Some.a) ∷ []))
     ∙ ap (λ (r : CDouble × Float). Left x index coeff r (i + 1))
     (c.with-row.ensures ∙ ap (λ (a : Float). row_term s a c.value_of.result) (z.3 nan) ∙ ap (row_term s (get_or coeff i nan)) (c.value_of.ensures ∙ ap x (z.2 0)))

@@ -7,4 +7,5 @@ use Rattle.tolerances.proofs.Sum.{Left}
 use Rattle.tolerances.proofs.Row.implied_slack.Given as goal
 
 abbrev pub invariant-loop-v : goal.invariant-loop-v
-invariant-loop-v l = Left (at l.values) l.self.index.now l.self.coeff.now (sum_of l.row) (length l.yielded) ≡ row_from (at l.values) (row_start l.self.rhs) (zip_terms l.self.index.now l.self.coeff.now)
+invariant-loop-v l = Left (at l.values) l.self.index.now l.self.coeff.now (sum_of l.row) (length l.yielded)
+    ≡ row_from (at l.values) (row_start l.self.rhs) (zip_terms l.self.index.now l.self.coeff.now)
