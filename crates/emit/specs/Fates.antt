@@ -8,6 +8,7 @@ use Rattle.std.proofs.Math.Bool.{true, false}
 use mathlib.Core.List.{List, [], ◌∷◌, ◌++◌, map}
 use Rattle.std.proofs.Math.Dec.{ltb}
 use Rattle.std.proofs.Math.ListN.{length}
+use borrow.Author.Tests.{ne_eqb, lt-ltb}
 use Rattle.floats.specs.Num.{choose, is_finite}
 use Rattle.tolerances.specs.Tol.{Term, at}
 use Rattle.definition.specs.Model.{Model, from, upto, rhs_of, Row, Emit}
@@ -265,11 +266,12 @@ module _ {M : Model} {cs : List ℕ} {bs : List Float} {rows : List Row} {r : �
   lists_by : (c : ℕ) → get_or cs r 0 ≡ c → FateLists M cs bs rows (suc r) (out_by M r c (at bs r) (get_or rows r no_row) o)
   unfolding out_by is_kept is_out is_rewritten
   lists_by zero e = lists_same (rw e) (rw e) (rw e)
-  lists_by (suc zero) e = lists_kept (rw e) (rw e) (rw e)
-  lists_by (suc (suc zero)) e = lists_written (rw e) (rw e) (rw e)
+  lists_by (suc zero) e = lists_written (rw e) (rw e) (rw e)
+  lists_by (suc (suc zero)) e = lists_rewritten (rw e) (rw e) (rw e)
   lists_by (suc (suc (suc c))) e =
-      let z : ltb 2 (get_or cs r 0) ≡ true = lt-ltb 2 (get_or cs r 0) (omega (arith, e)) in
-      lists_rewritten (rw (ne_eqb (get_or cs r 0) 1 (λ q. omega (arith, e, q))) z) (lt-ltb 1 (get_or cs r 0) (omega (arith, e))) z
+      let x = ne_eqb (get_or cs r 0) 1 (λ q. omega (arith, e, q)) in
+      let y = ne_eqb (get_or cs r 0) 2 (λ q. omega (arith, e, q)) in
+      lists_kept (lt-ltb 1 (get_or cs r 0) (omega (arith, e))) (rw (x, y)) y
 
 lists_fates : (M : Model) (cs : List ℕ) (bs : List Float) (rows : List Row) (n : ℕ) → FateLists M cs bs rows n (out_fates M cs bs rows n)
 unfolding out_fates collect terms_of
