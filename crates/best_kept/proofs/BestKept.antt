@@ -13,11 +13,11 @@ use Rattle.points_kept.specs.Statements.{Point, PureInteger, MeetsReduced}
 use Rattle.best_kept.specs.Objective.{WholeObjective, Least, SameFeasible, SameLeast, BestKept}
 use Rattle.points_kept.proofs.Integers.{eq_parts, mul_mono, mul_anti}
 use Rattle.points_kept.proofs.WholeFloats.{of_le, zero_is}
-use Rattle.best_kept.specs.Dominance.{Dominates, KeptUpTo}
+use Rattle.points_kept.specs.Dominance.{Dominates, KeptUpTo}
 use Rattle.best_kept.proofs.Moved.{no_dearer}
 use Rattle.best_kept.specs.DualFixing.{Moves}
 use Rattle.best_kept.proofs.DualFixing.{dual_ok}
-use Rattle.best_kept.proofs.Theorem.{kept_up_to, margin_ok}
+use Rattle.points_kept.proofs.Theorem.{kept_up_to, margin_ok}
 use Rattle.best_kept.proofs.LeastExists.{least_exists}
 use Rattle.best_kept.specs.BestKept.{Any, NoDearer}
 

@@ -25,13 +25,13 @@ use Rattle.points_kept.proofs.Integers.{eq_parts, mul_mono, mul_anti}
 use Rattle.points_kept.proofs.WholeFloats.{finite, sign_pos, of_nlt, zero_is}
 use Rattle.points_kept.specs.Terms.{All, TermOk}
 use Rattle.points_kept.proofs.Terms.{all_map, all_both}
-use Rattle.best_kept.specs.Invariant.{GoodW, RowSided, RowOk}
-use Rattle.best_kept.specs.Changes.{Sets}
-use Rattle.best_kept.proofs.Changes.{mark_any, set_good, set_one}
-use Rattle.best_kept.specs.WorkingRow.{AtWork}
-use Rattle.best_kept.proofs.WorkingRow.{point_meets, met_in}
-use Rattle.best_kept.specs.Dominance.{Dominance, At, Dominating}
-use Rattle.best_kept.proofs.Dominance.{good_for, has}
+use Rattle.points_kept.specs.Invariant.{GoodW, RowSided, RowOk}
+use Rattle.points_kept.specs.Changes.{Sets}
+use Rattle.points_kept.proofs.Changes.{mark_any, set_good, set_one}
+use Rattle.points_kept.specs.WorkingRow.{AtWork}
+use Rattle.points_kept.proofs.WorkingRow.{point_meets, met_in}
+use Rattle.points_kept.specs.Dominance.{Dominance, At, Dominating}
+use Rattle.points_kept.proofs.Dominance.{good_for, has}
 use Rattle.best_kept.specs.Blocked.{Falls, Rises}
 use Rattle.best_kept.proofs.Blocked.{may_fall_lem, may_rise_lem}
 use Rattle.best_kept.specs.Moved.{moved, NoMore, NoLess}
@@ -74,15 +74,19 @@ module _ (M : Model) (pure : PureInteger M) (w : Work) (g : GoodW M (At M w) w) 
   fallen l f = still (λ r h al.
       let ok = ((g.row r h).alive al).terms in
       still_met r h al
-      (λ t. by_sign (length M.lower) v (rises? M pure w g v a y p k) (NoMore v a y) ((terms M pure w g v a y p k) r) (λ u q s e. mul_mono (int u.coeff) a (y v) (positive u.coeff q (s e)) l) ok ((f r al).plus t))
-      (λ t. by_sign (length M.lower) v (falls? M pure w g v a y p k) (NoLess v a y) ((terms M pure w g v a y p k) r) (λ u q s e. mul_anti (int u.coeff) a (y v) (not_positive u.coeff q (s e)) l) ok ((f r al).minus t)))
+      (λ t. by_sign (length M.lower) v (rises? M pure w g v a y p k) (NoMore v a y) ((terms M pure w g v a y p k) r)
+      (λ u q s e. mul_mono (int u.coeff) a (y v) (positive u.coeff q (s e)) l) ok ((f r al).plus t))
+      (λ t. by_sign (length M.lower) v (falls? M pure w g v a y p k) (NoLess v a y) ((terms M pure w g v a y p k) r)
+      (λ u q s e. mul_anti (int u.coeff) a (y v) (not_positive u.coeff q (s e)) l) ok ((f r al).minus t)))
 
   pub risen : y v ⊑ a → ((r : ℕ) → Rises v w.rows r) → At M w (moved v a y)
   risen l f = still (λ r h al.
       let ok = ((g.row r h).alive al).terms in
       still_met r h al
-      (λ t. by_sign (length M.lower) v (falls? M pure w g v a y p k) (NoMore v a y) ((terms M pure w g v a y p k) r) (λ u q s e. mul_anti (int u.coeff) (y v) a (not_positive u.coeff q (s e)) l) ok ((f r al).minus t))
-      (λ t. by_sign (length M.lower) v (rises? M pure w g v a y p k) (NoLess v a y) ((terms M pure w g v a y p k) r) (λ u q s e. mul_mono (int u.coeff) (y v) a (positive u.coeff q (s e)) l) ok ((f r al).plus t)))
+      (λ t. by_sign (length M.lower) v (falls? M pure w g v a y p k) (NoMore v a y) ((terms M pure w g v a y p k) r)
+      (λ u q s e. mul_anti (int u.coeff) (y v) a (not_positive u.coeff q (s e)) l) ok ((f r al).minus t))
+      (λ t. by_sign (length M.lower) v (rises? M pure w g v a y p k) (NoLess v a y) ((terms M pure w g v a y p k) r)
+      (λ u q s e. mul_mono (int u.coeff) (y v) a (positive u.coeff q (s e)) l) ok ((f r al).plus t)))
 
 -- ---- `fix` at a whole number c of the bounds, to which each of the state's points may be moved
 module _ (M : Model) (D : Dominance) (moves : Moves M D) (w : Work) (d : Dominating M D w) (v : ℕ) (h : v < length M.lower) (c : Float) (b : Bounded (2 ^ 20) c)
@@ -100,7 +104,8 @@ module _ (M : Model) (D : Dominance) (moves : Moves M D) (w : Work) (d : Dominat
       (record { lo = b; hi = b; wlo = record { whole = b.whole; is = refl }; whi = record { whole = b.whole; is = refl }; order = omega arith })
       (record { lo = low; hi = high })
       (λ x p. let q = eq_parts p.1 in (omega arith, omega arith)) in
-      mark_any M (FixedSo M D moves w d v h c b low high) (λ x d e q k. k) v (with_counts (fixed_one w.counts) (with_bounds (set w.wlo v c) (set w.whi v c) (set w.elo v c) (set w.ehi v c) w)) (s.0, refl)
+      mark_any M (FixedSo M D moves w d v h c b low high) (λ x d e q k. k) v
+      (with_counts (fixed_one w.counts) (with_bounds (set w.wlo v c) (set w.whi v c) (set w.elo v c) (set w.ehi v c) w)) (s.0, refl)
 
   pub fix_ok : ((y : ℕ → ℤ) → At M w y → At M w (moved v (int c) y) × Allowed M v (int c) y) → Dominating M D (fix M v c w) × ((fix M v c w).rows ≡ w.rows)
   fix_ok to =
@@ -152,7 +157,8 @@ module _ (M : Model) (pure : PureInteger M) (D : Dominance) (moves : Moves M D) 
       (risen M pure w d.good v (int c) y p z l free, inr (a.0, l))) in
       (f.0, f.1 ∙ k.1)
 
-  pub var_ok : (v : ℕ) (w : Work) (changed : Bool) → v < (n M pure D moves rs) → (Now M pure D moves rs) w → (Now M pure D moves rs) (dual_var M (dec M pure D moves rs) (inc M pure D moves rs) v w changed).0
+  pub var_ok : (v : ℕ) (w : Work) (changed : Bool) → v < (n M pure D moves rs) → (Now M pure D moves rs) w
+      → (Now M pure D moves rs) (dual_var M (dec M pure D moves rs) (inc M pure D moves rs) v w changed).0
   unfolding dual_var
   var_ok v w changed h k =
       let Q : Work × Bool → Type 0 = λ p. (Now M pure D moves rs) p.0 in
@@ -160,7 +166,8 @@ module _ (M : Model) (pure : PureInteger M) (D : Dominance) (moves : Moves M D) 
       (λ _. taking Q (may_fall M (dec M pure D moves rs) v w) (λ t. fall_ok v w h k t)
       (λ _. taking Q (may_rise M (inc M pure D moves rs) v w) (λ t. rise_ok v w h k t) (λ _. k)))
 
-  pub from_ok : (m v : ℕ) (w : Work) (changed : Bool) → v + m ≤ (n M pure D moves rs) → (Now M pure D moves rs) w → (Now M pure D moves rs) (dual_from M m (dec M pure D moves rs) (inc M pure D moves rs) v w changed).0
+  pub from_ok : (m v : ℕ) (w : Work) (changed : Bool) → v + m ≤ (n M pure D moves rs) → (Now M pure D moves rs) w
+      → (Now M pure D moves rs) (dual_from M m (dec M pure D moves rs) (inc M pure D moves rs) v w changed).0
   unfolding dual_from
   from_ok zero v w changed h k = k
   from_ok (suc m) v w changed h k = from_ok m (suc v) _ _ (omega arith) (var_ok v w changed (omega arith) k)

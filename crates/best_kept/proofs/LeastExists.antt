@@ -15,7 +15,7 @@ use Rattle.definition.specs.Model.{Model, from, nnz, written, op_of, rhs_of}
 use Rattle.definition.specs.Accepted.{Shaped}
 use Rattle.definition.specs.Choices.{chosen, left, equal, unequal}
 use Rattle.definition.specs.Tests.{last_or}
-use Rattle.best_kept.specs.PointSet.{PointSet}
+use Rattle.points_kept.specs.PointSet.{PointSet}
 use Rattle.points_kept.specs.Statements.{dot, Meets, Point}
 use Rattle.best_kept.specs.Objective.{cost_below, cost, Least}
 use Rattle.points_kept.proofs.Integers.{eq_parts}

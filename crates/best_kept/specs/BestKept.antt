@@ -3,7 +3,7 @@
 use Rattle.floats.specs.Zed.{◌⊑◌}
 use Rattle.definition.specs.Model.{Model}
 use Rattle.best_kept.specs.Objective.{cost}
-use Rattle.best_kept.specs.Dominance.{Dominance}
+use Rattle.points_kept.specs.Dominance.{Dominance}
 
 -- ---- any point for any: that there is one
 abbrev pub Any : Dominance

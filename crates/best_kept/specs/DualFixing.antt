@@ -15,8 +15,8 @@ use Rattle.definition.specs.Model.{Model, Row}
 use Rattle.definition.specs.Work.{Work, no_row}
 use Rattle.definition.specs.Dual.{bad_dec, bad_inc, none_bad}
 use Rattle.points_kept.specs.Statements.{PureInteger, Within}
-use Rattle.best_kept.specs.Invariant.{GoodW}
-use Rattle.best_kept.specs.Dominance.{Dominance, At, Dominating}
+use Rattle.points_kept.specs.Invariant.{GoodW}
+use Rattle.points_kept.specs.Dominance.{Dominance, At, Dominating}
 use Rattle.best_kept.specs.Moved.{moved}
 
 -- a move of v from y's value to a that the objective's sign lets dual fixing make

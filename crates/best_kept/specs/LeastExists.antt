@@ -3,7 +3,7 @@
 use Prim.Native.Nat.{ℕ, ◌<◌}
 use Rattle.std.specs.Prelude.{◌≡◌, ℤ}
 use Rattle.floats.specs.Zed.{◌⊑◌}
-use Rattle.best_kept.specs.PointSet.{PointSet}
+use Rattle.points_kept.specs.PointSet.{PointSet}
 
 -- ---- x and y agree on the first n variables
 abbrev pub Same : ℕ → (ℕ → ℤ) → (ℕ → ℤ) → Type 0

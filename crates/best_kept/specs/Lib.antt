@@ -1,26 +1,6 @@
--- Presolve keeps the least objective of a model of whole numbers alone, with dual fixing on or off. `Objective` says it, `BestKept` has it. The invariant of
--- points_kept stands here for any set of points sought, and the theorem up to dominance.
-pub mod PointSet
+-- Presolve keeps the least objective of a model of whole numbers alone, with dual fixing on or off. `Objective` says it, `BestKept` has it: two more cases of
+-- points_kept's theorem up to dominance, since dual fixing loses no point that is not dominated.
 pub mod Objective
-pub mod Invariant
-pub mod Changes
-pub mod Activity
-pub mod WorkingRow
-pub mod Intervals
-pub mod ImpliedBounds
-pub mod Redundancy
-pub mod Forced
-pub mod OneTerm
-pub mod Folding
-pub mod Written
-pub mod NoTerm
-pub mod FourthCount
-pub mod Coefficients
-pub mod Output
-pub mod Dominance
-pub mod Rounds
-pub mod Start
-pub mod Theorem
 pub mod Blocked
 pub mod Moved
 pub mod DualFixing

@@ -5,7 +5,7 @@ use Rattle.floats.specs.Zed.{◌⊑◌}
 use Rattle.floats.specs.Points.{int, Whole}
 use Rattle.tolerances.specs.Tol.{at}
 use Rattle.definition.specs.Model.{Model, Reduced, Answer, infeasible, done}
-use Rattle.best_kept.specs.PointSet.{PointSet}
+use Rattle.points_kept.specs.PointSet.{PointSet}
 use Rattle.points_kept.specs.Statements.{Point, MeetsReduced, WholeReduced}
 
 -- every variable's objective is a whole number; -0 is one

@@ -132,12 +132,15 @@ module _ (M : Model) (w : Work) where
         add_assoc : (a b c : ℕ) → a + b + c ≡ a + (b + c)
         add_assoc a b c = omega arith
 
-    pub act_list : (ts : List Term) (los his : List Float) → length ts ≤ 256 → (Bounds M w pure g) los his → All (TermOk (length M.lower)) ts → ActivityOf (L M w) (H M w) ts (activity_from M w los his no_activity ts)
+    pub act_list : (ts : List Term) (los his : List Float) → length ts ≤ 256 → (Bounds M w pure g) los his → All (TermOk (length M.lower)) ts
+        → ActivityOf (L M w) (H M w) ts (activity_from M w los his no_activity ts)
     act_list ts los his h b a =
         let r = act_from ts 0 (pos 0) (pos 0) 0 0 no_activity los his (omega arith) nothing nothing b a in
         record {
-          l = subst₃ (λ (j : ℕ) (z : ℤ) (m : ℕ). LowIs j z m (activity_from M w los his no_activity ts)) (zero-add (length ts)) (+ℤ_idl (low (L M w) (H M w) ts)) (zero-add (low_mag (L M w) (H M w) ts)) r.0;
-          u = subst₃ (λ (j : ℕ) (z : ℤ) (m : ℕ). HighIs j z m (activity_from M w los his no_activity ts)) (zero-add (length ts)) (+ℤ_idl (high (L M w) (H M w) ts)) (zero-add (high_mag (L M w) (H M w) ts)) r.1;
+          l = subst₃ (λ (j : ℕ) (z : ℤ) (m : ℕ). LowIs j z m (activity_from M w los his no_activity ts)) (zero-add (length ts))
+              (+ℤ_idl (low (L M w) (H M w) ts)) (zero-add (low_mag (L M w) (H M w) ts)) r.0;
+          u = subst₃ (λ (j : ℕ) (z : ℤ) (m : ℕ). HighIs j z m (activity_from M w los his no_activity ts)) (zero-add (length ts))
+              (+ℤ_idl (high (L M w) (H M w) ts)) (zero-add (high_mag (L M w) (H M w) ts)) r.1;
         }
 
     -- THE ACTIVITY of a row, over the working bounds and over the emitted ones

@@ -12,7 +12,8 @@ use Rattle.tolerances.specs.Laws.{laws}
 use Rattle.definition.specs.Model.{Model, Row, with_alive}
 use Rattle.definition.specs.Work.{Work, with_marks, drop_row}
 use Rattle.definition.specs.Marks.{mark_row, mark_from, mark_var, adjacent}
-use Rattle.points_kept.specs.Statements.{Within, Point}
+use Rattle.points_kept.specs.PointSet.{PointSet}
+use Rattle.points_kept.specs.Statements.{Within}
 use Rattle.points_kept.proofs.Integers.{size_between}
 use Rattle.definition.specs.Choices.{both}
 use Rattle.definition.specs.Tests.{test, differ}
@@ -37,14 +38,14 @@ module _ (M : Model) where
       go (suc n) r w h =
           go n (suc r) _ (both Q (adjacent M v r) (both Q (get_or w.dirty r true) (keep w _ _ _ h) (keep w _ _ _ h)) h)
 
-  pub mark_var_lem : (w0 : Work) (v : ℕ) (w : Work) → (From M) w0 w → (From M) w0 (mark_var M v w)
-  mark_var_lem w0 v w h = mark_any ((From M) w0) (λ w d c q k. record { good = k.good; nars = k.nars; rows = k.rows }) v w h
+  pub mark_var_lem : {Sought : PointSet} (w0 : Work) (v : ℕ) (w : Work) → (From M) Sought w0 w → (From M) Sought w0 (mark_var M v w)
+  mark_var_lem {Sought} w0 v w h = mark_any ((From M) Sought w0) (λ w d c q k. record { good = k.good; nars = k.nars; rows = k.rows }) v w h
 
-  pub set_good : (wl wh el eh wl' wh' el' eh' : List Float) (rows : List Row) (v : ℕ) (a b c d : Float) → v < length M.lower → Good M wl wh el eh rows
+  pub set_good : {Sought : PointSet} (wl wh el eh wl' wh' el' eh' : List Float) (rows : List Row) (v : ℕ) (a b c d : Float) → v < length M.lower → Good M Sought wl wh el eh rows
       → Sets v wl wl' a → Sets v wh wh' b → Sets v el el' c → Sets v eh eh' d → Interval a b c d → Narrow (at el v) (at eh v) c d
-      → ((x : ℕ → ℤ) → Point M x → (int c ⊑ x v) × (x v ⊑ int d))
-      → Good M wl' wh' el' eh' rows × ((j : ℕ) → j < length M.lower → Narrower el eh el' eh' j)
-  set_good wl wh el eh wl' wh' el' eh' rows v a b c d h g sa sb sc sd ints nar keeps =
+      → ((x : ℕ → ℤ) → Sought x → (int c ⊑ x v) × (x v ⊑ int d))
+      → Good M Sought wl' wh' el' eh' rows × ((j : ℕ) → j < length M.lower → Narrower el eh el' eh' j)
+  set_good {Sought} wl wh el eh wl' wh' el' eh' rows v a b c d h g sa sb sc sd ints nar keeps =
       (narrow M wl wh el eh wl' wh' el' eh' rows g (sa.len ∙ g.wl_length) (sb.len ∙ g.wh_length) (sc.len ∙ g.el_length) (sd.len ∙ g.eh_length) intervals nars kept, nars)
     where
       interval_here : IntervalAt wl' wh' el' eh' v
@@ -67,10 +68,10 @@ module _ (M : Model) where
             | inr t ↦ rw (sc.there j (differ j v t), sd.there j (differ j v t)) (record { lo = omega arith; hi = omega arith })
           ]
 
-      kept_here : (x : ℕ → ℤ) → Point M x → (int (at el' v) ⊑ x v) × (x v ⊑ int (at eh' v))
+      kept_here : (x : ℕ → ℤ) → Sought x → (int (at el' v) ⊑ x v) × (x v ⊑ int (at eh' v))
       kept_here x p = rw (sc.here, sd.here) (keeps x p)
 
-      kept : (x : ℕ → ℤ) → Point M x → Within (length M.lower) el' eh' x
+      kept : (x : ℕ → ℤ) → Sought x → Within (length M.lower) el' eh' x
       kept x p j k =
           elim (test (eqb j v)) [
             | inl t ↦ subst (λ (i : ℕ). (int (at el' i) ⊑ x i) × (x i ⊑ int (at eh' i))) (sym (eqb→eq j v t)) (kept_here x p)
@@ -80,14 +81,15 @@ module _ (M : Model) where
   pub wider : {a b c d e f : Float} → Narrow a b c d → Narrow c d e f → Narrow a b e f
   wider p q = record { lo = omega (arith, p.lo, q.lo); hi = omega (arith, p.hi, q.hi) }
 
-  -- a point's value as a float
-  pub value : (w : Work) (v : ℕ) (x : ℕ → ℤ) → GoodW M w → v < length M.lower → Point M x → Is (of_int binary64 (x v)) (x v)
+  -- the value of a point sought as a float
+  pub value : {Sought : PointSet} (w : Work) (v : ℕ) (x : ℕ → ℤ) → GoodW M Sought w → v < length M.lower → Sought x → Is (of_int binary64 (x v)) (x v)
   value w v x g h p =
       let b = g.interval v h in
       let k = g.keeps x p v h in
       laws.of_is (x v) (omega (arith, size_between (int (at w.elo v)) (x v) (int (at w.ehi v)) (2 ^ 20) k.0 k.1 b.lo.small b.hi.small))
 
   -- ---- a row leaves that all within the bounds meet
-  pub drop_ok : (r : ℕ) (row : Row) (w : Work) → r < length M.rhs → GoodW M w → ((x : ℕ → ℤ) → Within (length M.lower) w.elo w.ehi x → RowSided M r x) → GoodW M (drop_row r row w)
+  pub drop_ok : {Sought : PointSet} (r : ℕ) (row : Row) (w : Work) → r < length M.rhs → GoodW M Sought w
+      → ((x : ℕ → ℤ) → Within (length M.lower) w.elo w.ehi x → RowSided M r x) → GoodW M Sought (drop_row r row w)
   unfolding drop_row
   drop_ok r row w h g d = set_row M w.wlo w.whi w.elo w.ehi w.rows r (with_alive false row) h g (record { alive = λ t. absurd t; dead = λ t. d })

@@ -11,13 +11,14 @@ use Rattle.definition.specs.Model.{Model, Row, Binding}
 use Rattle.definition.specs.Work.{Work}
 use Rattle.definition.specs.Folds.{fold_step, fold_loop, bound?, gives_back, relax_with, relax_binding, given_back, hold_rewrites, fold_fixed}
 use Rattle.definition.specs.Choices.{both}
+use Rattle.points_kept.specs.PointSet.{PointSet}
 use Rattle.points_kept.specs.Terms.{NonZero}
 use Rattle.points_kept.proofs.Terms.{all_index}
 use Rattle.points_kept.specs.Invariant.{RowOk, GoodW}
 use Rattle.points_kept.proofs.FoldStep.{step_ok}
 use Rattle.points_kept.specs.Folding.{Folded, Folding}
 
-module _ (M : Model) (w : Work) (g : GoodW M w) (r : ℕ) where
+module _ (M : Model) {Sought : PointSet} (w : Work) (g : GoodW M Sought w) (r : ℕ) where
   pub loop_ok : (row0 : Row) (n : ℕ) (s : ℕ × Row) → (Folding M w g r) row0 n s → (Folding M w g r) row0 0 (fold_loop n w s)
   unfolding fold_loop
   loop_ok row0 zero s f = f

@@ -14,6 +14,7 @@ use Rattle.tolerances.specs.Tol.{at}
 use Rattle.definition.specs.Model.{Model, rhs_of, written, Row}
 use Rattle.definition.specs.Work.{Work, no_term, fixed}
 use Rattle.definition.specs.Folds.{swap_remove, fold_term, fold_step}
+use Rattle.points_kept.specs.PointSet.{PointSet}
 use Rattle.points_kept.specs.Statements.{dot}
 use Rattle.points_kept.proofs.Integers.{eq_parts, size_add, size_sub}
 use Rattle.definition.specs.Tests.{last_or, taking}
@@ -24,7 +25,7 @@ use Rattle.points_kept.specs.Invariant.{RowOk, GoodW}
 use Rattle.points_kept.proofs.Folding.{side_sub, sr_all, sr_distinct, sr_dot, sr_length, sr_same, zero_ok}
 use Rattle.points_kept.specs.Folding.{Folding, tv}
 
-module _ (M : Model) (w : Work) (g : GoodW M w) (r : ℕ) where
+module _ (M : Model) {Sought : PointSet} (w : Work) (g : GoodW M Sought w) (r : ℕ) where
   -- a fixed variable's term leaves
   pub fold_ok : (row : Row) (i : ℕ) → i < length row.terms → RowOk M w.elo w.ehi r row → T (fixed w (get_or row.terms i no_term).var)
       → RowOk M w.elo w.ehi r (fold_term w i (get_or row.terms i no_term) row)

@@ -16,6 +16,7 @@ use Rattle.tolerances.specs.Laws.{laws}
 use Rattle.definition.specs.Model.{Model, Row, with_terms}
 use Rattle.definition.specs.Work.{Work, no_term}
 use Rattle.definition.specs.Folds.{swap_remove}
+use Rattle.points_kept.specs.PointSet.{PointSet}
 use Rattle.points_kept.specs.Statements.{dot}
 use Rattle.points_kept.proofs.Integers.{eq_parts}
 use Rattle.definition.specs.Tests.{differ, test}
@@ -122,7 +123,8 @@ sr_dot x ts i h =
       | inl t ↦ (let q = eqb→eq n i t in subst (λ (m : ℕ). get_or (set ts m u) n no_term ≡ u) q (get_or-set_same ts n u no_term (omega arith)))
       | inr t ↦ get_or-set_other ts i n u no_term (differ n i t)
     ] in
-    let d : dot x l ≡ dot x (take n l) +ℤ (tv x u +ℤ pos 0) = ap (dot x) (sym a ∙ e) ∙ dot_append x (take n l) (get_or l n no_term ∷ []) ∙ ap (λ (t : Term). dot x (take n l) +ℤ (tv x t +ℤ pos 0)) last in
+    let d : dot x l ≡ dot x (take n l) +ℤ (tv x u +ℤ pos 0) =
+    ap (dot x) (sym a ∙ e) ∙ dot_append x (take n l) (get_or l n no_term ∷ []) ∙ ap (λ (t : Term). dot x (take n l) +ℤ (tv x t +ℤ pos 0)) last in
     let s = dot_set x ts i u h in
     ext _ _ (omega (
       arith,
@@ -135,7 +137,7 @@ sr_dot x ts i h =
       add_parts (dot x (take n l)) (tv x (get_or ts i no_term)),
     ))
 
-module _ (M : Model) (w : Work) (g : GoodW M w) (r : ℕ) where
+module _ (M : Model) {Sought : PointSet} (w : Work) (g : GoodW M Sought w) (r : ℕ) where
   -- a zero coefficient leaves
   pub zero_ok : (row : Row) (i : ℕ) → i < length row.terms → RowOk M w.elo w.ehi r row → T (eq (get_or row.terms i no_term).coeff 0f)
       → RowOk M w.elo w.ehi r (with_terms (swap_remove row.terms i) row)

@@ -17,7 +17,8 @@ use Rattle.definition.specs.Model.{Model, Row, fixed_one}
 use Rattle.definition.specs.Work.{Work, with_bounds, with_counts}
 use Rattle.definition.specs.Bounds.{fix}
 use Rattle.definition.specs.Forcing.{corner, forcing_at, fix_all}
-use Rattle.points_kept.specs.Statements.{dot, Point}
+use Rattle.points_kept.specs.PointSet.{PointSet}
+use Rattle.points_kept.specs.Statements.{dot}
 use Rattle.points_kept.proofs.Integers.{eq_parts, mul_cancel, mul_cancel_neg}
 use Rattle.definition.specs.Choices.{both}
 use Rattle.definition.specs.Tests.{and3, test, taking, picked, unpicked}
@@ -40,15 +41,15 @@ unfolding dot corner_sum
 dot_corner mc w0 y [] c = refl
 dot_corner mc w0 y (t ∷ ts) c = ap₂ (λ (p q : ℤ). p +ℤ q) (ap (λ (z : ℤ). int t.coeff *ℤ z) c.0) (dot_corner mc w0 y ts c.1)
 
-module _ (M : Model) (w0 : Work) (g0 : GoodW M w0) where
+module _ (M : Model) {Sought : PointSet} (w0 : Work) (g0 : GoodW M Sought w0) where
   pub corner_ok : (mc : Bool) (t : Term) → t.var < length M.lower → Bounded (2 ^ 20) (corner mc w0 t) × (L M w0 t.var ⊑ int (corner mc w0 t)) × (int (corner mc w0 t) ⊑ H M w0 t.var)
   unfolding corner
   corner_ok mc t h =
       let o = g0.interval t.var h in
       both (λ (c : Float). Bounded (2 ^ 20) c × (L M w0 t.var ⊑ int c) × (int c ⊑ H M w0 t.var)) _ (o.hi, o.order, omega arith) (o.lo, omega arith, o.order)
 
-  -- ---- `fix` at a corner where all points are
-  pub fix_one : (mc : Bool) (t : Term) (w : Work) → TermOk (length M.lower) t → (Kept M w0 g0) w t → From M w0 w → ((x : ℕ → ℤ) → Point M x → AtCorner mc w0 x t)
+  -- ---- `fix` at a corner where all points sought are
+  pub fix_one : (mc : Bool) (t : Term) (w : Work) → TermOk (length M.lower) t → (Kept M w0 g0) w t → From M Sought w0 w → ((x : ℕ → ℤ) → Sought x → AtCorner mc w0 x t)
       → (FixedAt M w0 g0) w t.var (corner mc w0 t) (fix M t.var (corner mc w0 t) w)
   unfolding fix
   fix_one mc t w c k f pts =
@@ -66,8 +67,8 @@ module _ (M : Model) (w0 : Work) (g0 : GoodW M w0) where
       (with_counts (fixed_one w.counts) (with_bounds (set w.wlo v e) (set w.whi v e) (set w.elo v e) (set w.ehi v e) w))
       (record { from = record { good = s.0; nars = λ j h. wider M (f.nars j h) (s.1 j h); rows = f.rows }; nars = s.1; elo = refl; ehi = refl })
 
-  pub fix_all_lem : (mc : Bool) (ts : List Term) (w : Work) → All (TermOk (length M.lower)) ts → Distinct ts → All ((Kept M w0 g0) w) ts → From M w0 w → ((x : ℕ → ℤ) → Point M x → All (AtCorner mc w0 x) ts)
-      → (AllFixed M w0 g0) mc w ts (fix_all M mc w0 ts w)
+  pub fix_all_lem : (mc : Bool) (ts : List Term) (w : Work) → All (TermOk (length M.lower)) ts → Distinct ts → All ((Kept M w0 g0) w) ts → From M Sought w0 w
+      → ((x : ℕ → ℤ) → Sought x → All (AtCorner mc w0 x) ts) → (AllFixed M w0 g0) mc w ts (fix_all M mc w0 ts w)
   unfolding fix_all
   fix_all_lem mc [] w a d k f pts = record { from = f; nars = λ v h. record { lo = omega arith; hi = omega arith }; at_corner = λ y h. tt }
   fix_all_lem mc (t ∷ ts) w a d k f pts =
@@ -80,7 +81,8 @@ module _ (M : Model) (w0 : Work) (g0 : GoodW M w0) where
         ap (λ (l : List Float). int (at l u.var)) o.elo ∙ ap int (get_or-set_other w.elo v u.var e nan q.0) ∙ q.1.0,
         ap (λ (l : List Float). int (at l u.var)) o.ehi ∙ ap int (get_or-set_other w.ehi v u.var e nan q.0) ∙ q.1.1,
       ) in
-      let k1 : All ((Kept M w0 g0) w1) ts = all_map {Q = λ u. (u.var ≢ v) × (Kept M w0 g0) w u} {R = (Kept M w0 g0) w1} ts other (all_both (λ u. u.var ≢ v) ((Kept M w0 g0) w) ts (tail_other t ts d) k.1) in
+      let k1 : All ((Kept M w0 g0) w1) ts =
+      all_map {Q = λ u. (u.var ≢ v) × (Kept M w0 g0) w u} {R = (Kept M w0 g0) w1} ts other (all_both (λ u. u.var ≢ v) ((Kept M w0 g0) w) ts (tail_other t ts d) k.1) in
       let r = fix_all_lem mc ts w1 a.1 (tail_distinct t ts d) k1 o.from (λ x p. (pts x p).1) in
       record {
         from = r.from;
@@ -145,9 +147,11 @@ module _ (M : Model) (w0 : Work) (g0 : GoodW M w0) where
   high_corner [] a n = refl
   high_corner (t ∷ ts) a n = ap₂ (λ (p q : ℤ). p +ℤ q) (ap (λ (z : ℤ). int t.coeff *ℤ z) (highest_corner t a.0 n.0)) (high_corner ts a.1 n.1)
 
-module _ {M : Model} {w0 : Work} {r : ℕ} {row : Row} (σ : AtWork M w0 r row) (nz : All NonZero row.terms) {e : Activity} (a : ActivityOf (L M w0) (H M w0) row.terms e) where
+module _ {M : Model} {Sought : PointSet} {w0 : Work} {r : ℕ} {row : Row} (σ : AtWork M Sought w0 r row) (nz : All NonZero row.terms) {e : Activity}
+    (a : ActivityOf (L M w0) (H M w0) row.terms e) where
   pub known : All (Known σ nz a) (TS σ nz a)
-  known = all_both (λ t. TermOk (length M.lower) t × NonZero t) (Other M w0 (TS σ nz a)) (TS σ nz a) (all_both (TermOk (length M.lower)) NonZero (TS σ nz a) σ.ok.terms nz) (others M w0 (TS σ nz a) σ.ok.terms)
+  known = all_both (λ t. TermOk (length M.lower) t × NonZero t) (Other M w0 (TS σ nz a)) (TS σ nz a)
+      (all_both (TermOk (length M.lower)) NonZero (TS σ nz a) σ.ok.terms nz) (others M w0 (TS σ nz a) σ.ok.terms)
 
   -- a whole number between a tolerance and another's negation is 0
   pub sliver_zero : {s m : Float} {z : ℤ} {k : ℕ} → Is s z → Mag k m → k ≤ 2 ^ 45 → T (forcing_at M r s m w0 (TS σ nz a)) → (z ⊑ pos 0) × (pos 0 ⊑ z)

@@ -11,7 +11,8 @@ use Rattle.definition.specs.Model.{Model, Row}
 use Rattle.definition.specs.Work.{Work, drop_row}
 use Rattle.definition.specs.Sides.{hi_side, lo_side, near_min, near_max}
 use Rattle.definition.specs.Forcing.{forces_min, forces_max, fix_all}
-use Rattle.points_kept.specs.Statements.{dot, Within, Point}
+use Rattle.points_kept.specs.PointSet.{PointSet}
+use Rattle.points_kept.specs.Statements.{dot, Within}
 use Rattle.points_kept.proofs.Integers.{eq_parts}
 use Rattle.definition.specs.Tests.{and3, and}
 use Rattle.points_kept.proofs.WholeFloats.{diff}
@@ -27,11 +28,12 @@ use Rattle.points_kept.specs.WorkingRow.{AtWork}
 use Rattle.points_kept.proofs.Forced.{dot_corner, equal, fix_all_lem, high_corner, highest_corner, kept_now, known, low_corner, lowest_corner, sliver_zero}
 use Rattle.points_kept.specs.Forced.{AtCorner, Known, TS, corner_sum}
 
-module _ {M : Model} {w0 : Work} {r : ℕ} {row : Row} (σ : AtWork M w0 r row) (nz : All NonZero row.terms) {e : Activity} (a : ActivityOf (L M w0) (H M w0) row.terms e) where
-  -- ---- a row that is its side at a corner, where all points are
-  pub forced_ok : (mc : Bool) → σ.ok.b ≡ corner_sum mc w0 (TS σ nz a) → ((x : ℕ → ℤ) → Point M x → All (AtCorner mc w0 x) (TS σ nz a)) → GoodW M (drop_row r row (fix_all M mc w0 (TS σ nz a) w0))
+module _ {M : Model} {Sought : PointSet} {w0 : Work} {r : ℕ} {row : Row} (σ : AtWork M Sought w0 r row) (nz : All NonZero row.terms) {e : Activity}
+    (a : ActivityOf (L M w0) (H M w0) row.terms e) where
+  -- ---- a row that is its side at a corner, where all points sought are
+  pub forced_ok : (mc : Bool) → σ.ok.b ≡ corner_sum mc w0 (TS σ nz a) → ((x : ℕ → ℤ) → Sought x → All (AtCorner mc w0 x) (TS σ nz a)) → GoodW M Sought (drop_row r row (fix_all M mc w0 (TS σ nz a) w0))
   forced_ok mc same pts =
-      let start : From M w0 w0 = record { good = σ.good; nars = λ v h. record { lo = omega arith; hi = omega arith }; rows = refl } in
+      let start : From M Sought w0 w0 = record { good = σ.good; nars = λ v h. record { lo = omega arith; hi = omega arith }; rows = refl } in
       let all = fix_all_lem M w0 σ.good mc (TS σ nz a) w0 σ.ok.terms σ.ok.distinct (kept_now M w0 σ.good (TS σ nz a)) start pts in
       drop_ok M r row (fix_all M mc w0 (TS σ nz a) w0) σ.range all.from.good (λ x k.
       let k0 : Within (length M.lower) w0.elo w0.ehi x = λ j l. (omega (arith, (k j l).0, (all.nars j l).lo), omega (arith, (k j l).1, (all.nars j l).hi)) in
@@ -39,7 +41,7 @@ module _ {M : Model} {w0 : Work} {r : ℕ} {row : Row} (σ : AtWork M w0 r row) 
       met_in σ x k0 (record { below = λ _. omega (arith, eq_parts q); above = λ _. omega (arith, eq_parts q) }))
 
   -- FORCING keeps the invariant, at either corner
-  pub forces_min_ok : (wact : Activity) → T (forces_min M r row wact e w0) → GoodW M (drop_row r row (fix_all M true w0 (TS σ nz a) w0))
+  pub forces_min_ok : (wact : Activity) → T (forces_min M r row wact e w0) → GoodW M Sought (drop_row r row (fix_all M true w0 (TS σ nz a) w0))
   unfolding forces_min near_min
   forces_min_ok wact t =
       let c = and3 (near_min M r row wact) _ _ t in
@@ -58,7 +60,7 @@ module _ {M : Model} {w0 : Work} {r : ℕ} {row : Row} (σ : AtWork M w0 r row) 
       let dn : least₀ ⊑ U = above_least M w0 x u (σ.good.keeps x p) f.0.0 in
       equal M w0 σ.good u f.0.0 f.0.1 (x u.var) (lowest (L M w0) (H M w0) u) up dn ∙ lowest_corner M w0 σ.good u f.0.0 f.0.1) (known σ nz a))
 
-  pub forces_max_ok : (wact : Activity) → T (forces_max M r row wact e w0) → GoodW M (drop_row r row (fix_all M false w0 (TS σ nz a) w0))
+  pub forces_max_ok : (wact : Activity) → T (forces_max M r row wact e w0) → GoodW M Sought (drop_row r row (fix_all M false w0 (TS σ nz a) w0))
   unfolding forces_max near_max
   forces_max_ok wact t =
       let c = and3 (near_max M r row wact) _ _ t in

@@ -1,7 +1,7 @@
--- THE FOURTH COUNT, of rewritten coefficients, is the same after any number of waves: whatever a wave does, it rewrites none.
+-- THE FOURTH COUNT, of rewritten coefficients, is the same after any number of waves, and after dual fixing: whatever these do, they rewrite none.
 use Prim.Native.Nat.{ℕ, zero, suc}
-use Rattle.std.specs.Prelude.{Bool, ◌||◌, Float}
-use Rattle.std.proofs.Math.Bool.{true, false}
+use Rattle.std.specs.Prelude.{◌||◌, Float}
+use Rattle.std.proofs.Math.Bool.{Bool, true, false}
 use Rattle.std.proofs.Math.Option.{Option, none, some}
 use mathlib.Core.List.{List, [], ◌∷◌}
 use Rattle.std.specs.Float.Ieee.{lt}
@@ -15,6 +15,7 @@ use Rattle.definition.specs.Bounds.{mark_tightened, upper_int, upper_real, lower
 use Rattle.definition.specs.Singles.{singleton_int, empty_row_check, singleton_bounds, singleton_drop, singleton_row}
 use Rattle.definition.specs.Forcing.{fix_all}
 use Rattle.definition.specs.Implied.{implied, implied_term, implied_bounds}
+use Rattle.definition.specs.Dual.{dual_var, dual_from, dual_fix}
 use Rattle.definition.specs.Wave.{several_terms, by_count, wave_row, wave_rows, wave, waves}
 use Rattle.definition.specs.Choices.{both}
 use Rattle.points_kept.proofs.Changes.{mark_any}
@@ -112,3 +113,15 @@ module _ (M : Model) (n : ℕ) where
   unfolding waves wave
   waves_c zero w h = goes h
   waves_c (suc k) w h = both (E M n) _ (goes h) (next_counted (rows_c w.queue _ (record { is = h.is })) (λ x j. waves_c k x j))
+
+  pub dual_from_lem : (k : ℕ) (dec inc : List Bool) (v : ℕ) (w : Work) (changed : Bool) → Fourth n w → Fourth n (dual_from M k dec inc v w changed).0
+  unfolding dual_from dual_var
+  dual_from_lem zero dec inc v w changed h = h
+  dual_from_lem (suc k) dec inc v w changed h =
+      let Q : Work × Bool → Type 0 = λ p. Fourth n p.0 in
+      dual_from_lem k dec inc (suc v) _ _ (both Q _ h (both Q _ (fix_c v _ w h) (both Q _ (fix_c v _ w h) h)))
+
+  -- and after dual fixing
+  pub dual_c : (w : Work) → Fourth n w → Fourth n (dual_fix M w).0
+  unfolding dual_fix
+  dual_c w h = dual_from_lem _ _ _ 0 w false h

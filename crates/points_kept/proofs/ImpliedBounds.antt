@@ -17,7 +17,8 @@ use Rattle.definition.specs.declared.Activity.{Activity}
 use Rattle.definition.specs.Model.{Model, Row, rhs_mag}
 use Rattle.definition.specs.Work.{Work, budget}
 use Rattle.definition.specs.Implied.{rest_of, finite_abs, implied, implied_term, implied_bounds}
-use Rattle.points_kept.specs.Statements.{dot, Point}
+use Rattle.points_kept.specs.PointSet.{PointSet}
+use Rattle.points_kept.specs.Statements.{dot}
 use Rattle.points_kept.proofs.Integers.{size_sub, mul_mono, mul_anti}
 use Rattle.definition.specs.Tests.{nor, test, taking, if_true, alike_by, pick}
 use Rattle.points_kept.proofs.WholeFloats.{finite, of_nlt, zero_is, tol_nonneg, whole_abs, abs_bounded, sized, diff, mag_sum, mag_abs, sign, sign_pos}
@@ -64,10 +65,24 @@ module _ (M : Model) (w : Work) where
           record {
             lo = λ x h.
                 let T = int t.coeff *ℤ x t.var in
-                omega (arith, above_low M w x ts h a.1, add_parts ((lo₀ M w) t) ((lows M w) ts), add_parts T (dot x ts), add_parts ((lo₀ M w) t +ℤ ((lows M w) ts)) T, add_parts (T +ℤ dot x ts) ((lo₀ M w) t));
+                omega (
+                  arith,
+                  above_low M w x ts h a.1,
+                  add_parts ((lo₀ M w) t) ((lows M w) ts),
+                  add_parts T (dot x ts),
+                  add_parts ((lo₀ M w) t +ℤ ((lows M w) ts)) T,
+                  add_parts (T +ℤ dot x ts) ((lo₀ M w) t),
+                );
             hi = λ x h.
                 let T = int t.coeff *ℤ x t.var in
-                omega (arith, below_high M w x ts h a.1, add_parts ((hi₀ M w) t) ((highs M w) ts), add_parts T (dot x ts), add_parts ((hi₀ M w) t +ℤ ((highs M w) ts)) T, add_parts (T +ℤ dot x ts) ((hi₀ M w) t));
+                omega (
+                  arith,
+                  below_high M w x ts h a.1,
+                  add_parts ((hi₀ M w) t) ((highs M w) ts),
+                  add_parts T (dot x ts),
+                  add_parts ((hi₀ M w) t +ℤ ((highs M w) ts)) T,
+                  add_parts (T +ℤ dot x ts) ((hi₀ M w) t),
+                );
           }
 
       later : (u : Term) → (Other M w) ts u → (Other M w) (t ∷ ts) u
@@ -119,7 +134,7 @@ max_mag {x} {k} p h =
     (λ t. record { whole = z.whole; nonneg = omega (arith, ap P z.is, ap N z.is); small = omega (arith, ap P z.is, ap N z.is) })
     (λ t. record { whole = p; nonneg = omega (arith, of_nlt p z.whole (record { nlt = (nor (is_nan x) (lt x 0f) t).1 }), ap P z.is, ap N z.is); small = h })
 
-module _ {M : Model} {w0 : Work} {r : ℕ} {row : Row} (σ : AtWork M w0 r row) where
+module _ {M : Model} {Sought : PointSet} {w0 : Work} {r : ℕ} {row : Row} (σ : AtWork M Sought w0 r row) where
   -- ---- the numerator b - (s - c) is exact, and the relaxation is not negative: b the row's side, s, m and k the corner's sum, magnitude and slack, c the term's part
   pub relax_ok : {b s c m k : Float} {S z : ℤ} {j n : ℕ} (t : Term) → Is b σ.ok.b → Corner (length row.terms) S j s n m k → Part c z → Bounded (2 ^ 15) t.coeff → pos 0 ⊏ int (abs t.coeff)
       → Is (b ⊖ (s ⊖ c)) (σ.ok.b -ℤ (S -ℤ z))
@@ -149,12 +164,12 @@ module _ {M : Model} {w0 : Work} {r : ℕ} {row : Row} (σ : AtWork M w0 r row) 
 
   -- ---- from one side of the row: up says that b limits it from above
   pub implied_side : (up : Bool) (t : Term) {b s c m k : Float} {S z : ℤ} {j n : ℕ} (w : Work) → Is b σ.ok.b → Corner (length row.terms) S j s n m k
-      → Part c z → TermOk (length M.lower) t → NonZero t → From M w0 w
-      → ((x : ℕ → ℤ) → Point M x → (T up → int t.coeff *ℤ x t.var ⊑ σ.ok.b -ℤ (S -ℤ z)) × (T (not up) → σ.ok.b -ℤ (S -ℤ z) ⊑ int t.coeff *ℤ x t.var))
-      → Each M (From M w0) (implied M up r row b m k c t (rest_of s n c) w)
+      → Part c z → TermOk (length M.lower) t → NonZero t → From M Sought w0 w
+      → ((x : ℕ → ℤ) → Sought x → (T up → int t.coeff *ℤ x t.var ⊑ σ.ok.b -ℤ (S -ℤ z)) × (T (not up) → σ.ok.b -ℤ (S -ℤ z) ⊑ int t.coeff *ℤ x t.var))
+      → Each M Sought (From M Sought w0) (implied M up r row b m k c t (rest_of s n c) w)
   unfolding implied rest_of
   implied_side up t {b} {s} {c} {m} {k} {n = n} w pb o pc ct nt fw le =
-      let E : Option Float → Type 0 = λ u. Each M (From M w0) (implied M up r row b m k c t u w) in
+      let E : Option Float → Type 0 = λ u. Each M Sought (From M Sought w0) (implied M up r row b m k c t u w) in
       let q = relax_ok t pb o pc ct.coeff (abs_coeff t ct nt) in
       let D = q.0 in
       let int_v = int_var M σ.pure t.var ct.var in
@@ -162,15 +177,15 @@ module _ {M : Model} {w0 : Work} {r : ℕ} {row : Row} (σ : AtWork M w0 r row) 
       let minus = sign t.coeff ct.coeff.whole nt in
       if_true E (is_finite c) _ (finite c pc.0.whole)
       (if_true E (eqb n 0) _ (subst (λ (n : ℕ). T (eqb n 0)) (sym o.none) tt)
-      (pick (Each M (From M w0)) (lt 0f t.coeff) up
+      (pick (Each M Sought (From M Sought w0)) (lt 0f t.coeff) up
       (λ a u. upper_ok M w0 t.var w ct.var fw int_v _ _ (λ x p X. upper_keeps q.2 ct.coeff q.1 X (rises (plus a) (rw D.is ((le x p).0 u)))))
       (λ a u. lower_ok M w0 t.var w ct.var fw int_v _ _ (λ x p X. lower_keeps q.2 ct.coeff q.1 X (rises (plus a) (rw D.is ((le x p).1 u)))))
       (λ a u. upper_ok M w0 t.var w ct.var fw int_v _ _ (λ x p X. upper_keeps q.2 ct.coeff q.1 X (falls (minus a) (rw D.is ((le x p).1 u)))))
       (λ a u. lower_ok M w0 t.var w ct.var fw int_v _ _ (λ x p X. lower_keeps q.2 ct.coeff q.1 X (falls (minus a) (rw D.is ((le x p).0 u)))))))
 
   module _ {act : Activity} (a : ActivityOf (L M w0) (H M w0) row.terms act) where
-    pub implied_hi : (t : Term) (c : Float) (z : ℤ) (w : Work) → TermOk (length M.lower) t → NonZero t → Other M w0 row.terms t → From M w0 w → T (is_finite row.hi)
-        → Part c z → least (L M w0) (H M w0) t ⊑ z → Each M (From M w0) (implied M true r row row.hi act.absL act.slack_l c t (rest_of act.l act.ninf_l c) w)
+    pub implied_hi : (t : Term) (c : Float) (z : ℤ) (w : Work) → TermOk (length M.lower) t → NonZero t → Other M w0 row.terms t → From M Sought w0 w → T (is_finite row.hi)
+        → Part c z → least (L M w0) (H M w0) t ⊑ z → Each M Sought (From M Sought w0) (implied M true r row row.hi act.absL act.slack_l c t (rest_of act.l act.ninf_l c) w)
     implied_hi t c z w ct nt ot fw ft pc lz =
         implied_side true t w (σ.ok.hi.shut (finite_hi σ ft)) a.l pc ct nt fw (λ x p. (
           λ u.
@@ -188,8 +203,8 @@ module _ {M : Model} {w0 : Work} {r : ℕ} {row : Row} (σ : AtWork M w0 r row) 
           λ u. absurd u,
         ))
 
-    pub implied_lo : (t : Term) (c : Float) (z : ℤ) (w : Work) → TermOk (length M.lower) t → NonZero t → Other M w0 row.terms t → From M w0 w → T (is_finite row.lo)
-        → Part c z → z ⊑ most (L M w0) (H M w0) t → Each M (From M w0) (implied M false r row row.lo act.absU act.slack_u c t (rest_of act.u act.ninf_u c) w)
+    pub implied_lo : (t : Term) (c : Float) (z : ℤ) (w : Work) → TermOk (length M.lower) t → NonZero t → Other M w0 row.terms t → From M Sought w0 w → T (is_finite row.lo)
+        → Part c z → z ⊑ most (L M w0) (H M w0) t → Each M Sought (From M Sought w0) (implied M false r row row.lo act.absU act.slack_u c t (rest_of act.u act.ninf_u c) w)
     implied_lo t c z w ct nt ot fw ft pc lz =
         implied_side false t w (σ.ok.lo.shut (finite_lo σ ft)) a.u pc ct nt fw (λ x p. (
           λ u. absurd u,
@@ -207,7 +222,7 @@ module _ {M : Model} {w0 : Work} {r : ℕ} {row : Row} (σ : AtWork M w0 r row) 
               ),
         ))
 
-    pub term_ok : (t : Term) (w : Work) → (Known σ a) t → From M w0 w → Each M (From M w0) (implied_term M r row act t w)
+    pub term_ok : (t : Term) (w : Work) → (Known σ a) t → From M Sought w0 w → Each M Sought (From M Sought w0) (implied_term M r row act t w)
     unfolding implied_term
     term_ok t w f fw =
         let g = fw.good in
@@ -216,18 +231,18 @@ module _ {M : Model} {w0 : Work} {r : ℕ} {row : Row} (σ : AtWork M w0 r row) 
         let pmin = range_min_lem M w σ.pure g.interval {los = w.wlo} {his = w.whi} b c in
         let pmax = range_max_lem M w σ.pure g.interval {los = w.wlo} {his = w.whi} b c in
         let n = fw.nars t.var c.var in
-        then M {R = From M w0} (taking (Each M (From M w0)) (is_finite row.hi)
+        then M {R = From M Sought w0} (taking (Each M Sought (From M Sought w0)) (is_finite row.hi)
         (λ ft. implied_hi t _ _ w c f.0.1 f.1 fw ft pmin (least_mono (L M w0) (H M w0) _ _ t c.coeff.whole n.lo n.hi)) (λ ft. went fw))
-        (λ w1 fw1. taking (Each M (From M w0)) (is_finite row.lo)
+        (λ w1 fw1. taking (Each M Sought (From M Sought w0)) (is_finite row.lo)
         (λ ft. implied_lo t _ _ w1 c f.0.1 f.1 fw1 ft pmax (most_mono (L M w0) (H M w0) _ _ t c.coeff.whole n.lo n.hi)) (λ ft. went fw1))
 
-    pub loop_ok : (ts : List Term) (w : Work) → All (Known σ a) ts → From M w0 w → Each M (From M w0) (implied_bounds M r row act ts w)
+    pub loop_ok : (ts : List Term) (w : Work) → All (Known σ a) ts → From M Sought w0 w → Each M Sought (From M Sought w0) (implied_bounds M r row act ts w)
     unfolding implied_bounds
     loop_ok [] w f fw = went fw
-    loop_ok (t ∷ ts) w f fw = then M {R = From M w0} (term_ok t w f.0 fw) (λ w1 fw1. loop_ok ts w1 f.1 fw1)
+    loop_ok (t ∷ ts) w f fw = then M {R = From M Sought w0} (term_ok t w f.0 fw) (λ w1 fw1. loop_ok ts w1 f.1 fw1)
 
     -- IMPLIED BOUNDS keep the invariant
-    pub implied_ok : All NonZero row.terms → Each M (From M w0) (implied_bounds M r row act row.terms w0)
+    pub implied_ok : All NonZero row.terms → Each M Sought (From M Sought w0) (implied_bounds M r row act row.terms w0)
     implied_ok nz =
         loop_ok row.terms w0
         (all_both (λ t. TermOk (length M.lower) t × NonZero t) (Other M w0 row.terms) row.terms

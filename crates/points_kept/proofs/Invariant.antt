@@ -1,5 +1,5 @@
--- THE INVARIANT of the work on a model of whole numbers: bounds are whole and in order, no point is lost, each row at work says what the written row says, and
--- each dropped one is met within the bounds.
+-- THE INVARIANT of the work on a model of whole numbers: bounds are whole and in order, none of the points sought is lost, each row at work says what the written
+-- row says, and each dropped one is met within the bounds.
 use Rattle.std.specs.Prelude.{ℕ, ◌+◌, ◌≤◌, ◌<◌, zero, suc, refl, ◌≡◌, ◌&&◌, List, eqb, ltb, ℤ, ◌+ℤ◌, get_or, set, Float}
 use Rattle.std.proofs.Common.{arith, ap, sym, ◌∙◌, nltb→le, eqb→eq, length-set, get_or-set_same, get_or-set_other}
 use Rattle.std.proofs.Math.Path.{subst}
@@ -14,6 +14,7 @@ use Rattle.tolerances.specs.Tol.{at, Term}
 use Rattle.tolerances.specs.Laws.{laws}
 use Rattle.definition.specs.Model.{with_terms, Model, op_of, rhs_of, Row}
 use Rattle.definition.specs.Work.{Work, Step, ◌>>=◌, no_row}
+use Rattle.points_kept.specs.PointSet.{PointSet}
 use Rattle.points_kept.specs.Statements.{PureInteger, Meets, dot, Within, Point}
 use Rattle.points_kept.proofs.Integers.{eq_parts}
 use Rattle.definition.specs.Tests.{and, test, all_true, differ}
@@ -39,12 +40,12 @@ meets (suc (suc (suc n))) h m = absurd (no n h)
     no : (n : ℕ) → suc (suc (suc n)) ≤ 2 → ⊥
     no n h = omega arith
 
--- a point meets each row
+-- a point of the model meets each row
 pub asks : (M : Model) → PureInteger M → (x : ℕ → ℤ) → Point M x → (r : ℕ) → r < length M.rhs → RowSided M r x
 asks M pure x p r h = sided (op_of M r) (pure.shape.op r h) (p.rows r h)
 
 module _ (M : Model) where
-  pub then : {Q R : Work → Type 0} {s : Step} {f : Work → Step} → (Each M) Q s → ((w : Work) → Q w → (Each M) R (f w)) → (Each M) R (s >>= f)
+  pub then : {Sought : PointSet} {Q R : Work → Type 0} {s : Step} {f : Work → Step} → (Each M) Sought Q s → ((w : Work) → Q w → (Each M) Sought R (f w)) → (Each M) Sought R (s >>= f)
   then (stopped n) q = stopped n
   then (went {w} p) q = q w p
 
@@ -107,10 +108,10 @@ module _ (M : Model) where
         same = λ x h. let q = e x h in o.same x q.0 ∙ ap (λ (z : ℤ). z +ℤ int (rhs_of M r)) (sym q.1);
       }
 
-  pub narrow : (wl wh el eh wl' wh' el' eh' : List Float) (rows : List Row) → (Good M) wl wh el eh rows
+  pub narrow : {Sought : PointSet} (wl wh el eh wl' wh' el' eh' : List Float) (rows : List Row) → (Good M) Sought wl wh el eh rows
       → length wl' ≡ length M.lower → length wh' ≡ length M.lower → length el' ≡ length M.lower → length eh' ≡ length M.lower
       → ((v : ℕ) → v < length M.lower → IntervalAt wl' wh' el' eh' v) → ((v : ℕ) → v < length M.lower → Narrower el eh el' eh' v)
-      → ((x : ℕ → ℤ) → Point M x → Within (length M.lower) el' eh' x) → (Good M) wl' wh' el' eh' rows
+      → ((x : ℕ → ℤ) → Sought x → Within (length M.lower) el' eh' x) → (Good M) Sought wl' wh' el' eh' rows
   narrow wl wh el eh wl' wh' el' eh' rows g a b c d ints nar keeps =
       record {
         wl_length = a;
@@ -120,6 +121,7 @@ module _ (M : Model) where
         rows_length = g.rows_length;
         interval = ints;
         keeps = keeps;
+        asks = g.asks;
         shrinks = λ x h. g.shrinks x (wider x h);
         row = λ r h. record { alive = λ t. again ((g.row r h).alive t); dead = λ t x k. (g.row r h).dead t x (wider x k) };
       }
@@ -131,7 +133,8 @@ module _ (M : Model) where
       again {row = row} o = re_terms row.terms o o.terms o.distinct (omega arith) (λ x h. (agrees wl wh el eh wl' wh' el' eh' x g.el_length g.interval ints nar h, refl))
 
   -- ---- one row changed
-  pub set_row : (wl wh el eh : List Float) (rows : List Row) (r : ℕ) (row : Row) → r < length M.rhs → (Good M) wl wh el eh rows → (RowAt M) el eh r row → (Good M) wl wh el eh (set rows r row)
+  pub set_row : {Sought : PointSet} (wl wh el eh : List Float) (rows : List Row) (r : ℕ) (row : Row)
+      → r < length M.rhs → (Good M) Sought wl wh el eh rows → (RowAt M) el eh r row → (Good M) Sought wl wh el eh (set rows r row)
   set_row wl wh el eh rows r row h g o =
       record {
         wl_length = g.wl_length;
@@ -140,6 +143,7 @@ module _ (M : Model) where
         eh_length = g.eh_length;
         interval = g.interval;
         keeps = g.keeps;
+        asks = g.asks;
         shrinks = g.shrinks;
         rows_length = length-set rows r row ∙ g.rows_length;
         row = λ j k. elim (test (eqb j r)) [

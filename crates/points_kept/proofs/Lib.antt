@@ -29,6 +29,7 @@ pub mod NoTerm
 pub mod Waves
 pub mod FourthCount
 pub mod Coefficients
+pub mod Dominance
 pub mod Rounds
 pub mod Output
 pub mod Start

@@ -19,6 +19,7 @@ use Rattle.tolerances.specs.Budget.{row_tol}
 use Rattle.definition.specs.Model.{Model, op_of, Row}
 use Rattle.definition.specs.Work.{Work, Step, fixed, drop_row}
 use Rattle.definition.specs.Singles.{empty_row_check, fixed_value}
+use Rattle.points_kept.specs.PointSet.{PointSet}
 use Rattle.points_kept.specs.Statements.{dot, Within}
 use Rattle.points_kept.proofs.Integers.{eq_parts}
 use Rattle.definition.specs.Choices.{both}
@@ -34,11 +35,11 @@ use Rattle.points_kept.proofs.ImpliedSlack.{implied_from_lem}
 use Rattle.points_kept.proofs.Verdicts.{inside_ok, outside_ok, verdict_true, verdict_none}
 use Rattle.points_kept.specs.NoTerm.{B, Beside, TS, out, triv}
 
-pub good_of : {M : Model} {r : ℕ} {w : Work} {s : Step} → Each M (Beside M r w) s → Each M (GoodW M) s
+pub good_of : {M : Model} {Sought : PointSet} {r : ℕ} {w : Work} {s : Step} → Each M Sought (Beside M Sought r w) s → Each M Sought (GoodW M Sought) s
 good_of (stopped n) = stopped n
 good_of (went b) = went b.good
 
-module _ {M : Model} {w : Work} {r : ℕ} {row : Row} (σ : AtWork M w r row) (e : row.terms ≡ []) where
+module _ {M : Model} {Sought : PointSet} {w : Work} {r : ℕ} {row : Row} (σ : AtWork M Sought w r row) (e : row.terms ≡ []) where
   -- the values that the row is judged at, as numbers, agree with the fixed variables
   pub X : ℕ → ℤ
   X v = int (fixed_value w v)
@@ -78,7 +79,14 @@ module _ {M : Model} {w : Work} {r : ℕ} {row : Row} (σ : AtWork M w r row) (e
       let q : dot X (TS σ e) +ℤ σ.ok.b ≡ pos 0 +ℤ int (B σ e) = σ.ok.same X agrees ∙ ap (λ (ts : List Term). dot X ts +ℤ int (B σ e)) e in
       record {
         whole = s.whole;
-        is = s.is ∙ ext _ _ (omega (arith, eq_parts q, add_parts (dot X (TS σ e)) σ.ok.b, add_parts (pos 0) (int (B σ e)), sub_parts (int (B σ e)) (dot X (TS σ e)), add_parts (int (B σ e) -ℤ dot X (TS σ e)) (pos 0)));
+        is = s.is ∙ ext _ _ (omega (
+          arith,
+          eq_parts q,
+          add_parts (dot X (TS σ e)) σ.ok.b,
+          add_parts (pos 0) (int (B σ e)),
+          sub_parts (int (B σ e)) (dot X (TS σ e)),
+          add_parts (int (B σ e) -ℤ dot X (TS σ e)) (pos 0),
+        ));
       }
 
   pub tol_is : Tol (row_tolerance M.feas (implied_slack (fixed_value w) (B σ e) (TS σ e)).1)
@@ -86,10 +94,10 @@ module _ {M : Model} {w : Work} {r : ℕ} {row : Row} (σ : AtWork M w r row) (e
   tol_is = row_tol (tolerance σ.pure.numbers.feas) (record { whole = slack_is.mag.whole; small = omega (arith, slack_is.mag.small, short) }) slack_is.mag.nonneg
 
   -- A ROW OF NO TERM keeps the invariant, and the bounds
-  pub empty_keeps : Each M (Beside M r w) (empty_row_check M r row w)
+  pub empty_keeps : Each M Sought (Beside M Sought r w) (empty_row_check M r row w)
   unfolding empty_row_check violated dot drop_row
   empty_keeps =
-      taking (Each M (Beside M r w)) (not (triv σ e) && (out σ e))
+      taking (Each M Sought (Beside M Sought r w)) (not (triv σ e) && (out σ e))
       (λ t. stopped (λ x p.
       let m = subst (λ (ts : List Term). Sided (op_of M r) (dot x ts) σ.ok.b) e (point_meets σ x p) in
       outside_ok (op_of M r) _ _ σ.ok.b value_is tol_is (and (not (triv σ e)) (out σ e) t).1 m.below m.above))

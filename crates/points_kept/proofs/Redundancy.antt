@@ -13,6 +13,7 @@ use Rattle.definition.specs.declared.Activity.{Activity}
 use Rattle.definition.specs.Model.{Model, Row, op_of}
 use Rattle.definition.specs.Work.{Work}
 use Rattle.definition.specs.Sides.{within_by, within, mag_both, redundant, within_lo, within_hi, side_mag}
+use Rattle.points_kept.specs.PointSet.{PointSet}
 use Rattle.points_kept.specs.Statements.{Within, dot}
 use Rattle.definition.specs.Tests.{and, or, taking, nor}
 use Rattle.points_kept.proofs.Margins.{nonneg_times}
@@ -25,7 +26,7 @@ use Rattle.points_kept.proofs.WorkingRow.{met_in, finite_hi, finite_lo, rhs_mag_
 use Rattle.points_kept.specs.WorkingRow.{AtWork}
 use Rattle.points_kept.specs.Redundancy.{Positive}
 
-module _ {M : Model} {w : Work} {r : ℕ} {row : Row} (σ : AtWork M w r row) {e : Activity} (a : ActivityOf (L M w) (H M w) row.terms e) where
+module _ {M : Model} {Sought : PointSet} {w : Work} {r : ℕ} {row : Row} (σ : AtWork M Sought w r row) {e : Activity} (a : ActivityOf (L M w) (H M w) row.terms e) where
   pub side_mag_lem : (b : Float) → (T (is_finite b) → Is b σ.ok.b) → Mag (2 ^ 40) (side_mag row b)
   unfolding side_mag
   side_mag_lem b p =

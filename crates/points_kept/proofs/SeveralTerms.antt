@@ -11,6 +11,7 @@ use Rattle.definition.specs.Sides.{unreachable, redundant}
 use Rattle.definition.specs.Forcing.{forces_min, forces_max}
 use Rattle.definition.specs.Wave.{several_terms}
 use Rattle.definition.specs.Tests.{taking}
+use Rattle.points_kept.specs.PointSet.{PointSet}
 use Rattle.points_kept.specs.Terms.{All, NonZero}
 use Rattle.points_kept.specs.Invariant.{GoodW, Each, stopped, went}
 use Rattle.points_kept.specs.Changes.{From}
@@ -22,16 +23,16 @@ use Rattle.points_kept.proofs.ImpliedBounds.{implied_ok}
 use Rattle.points_kept.proofs.Redundancy.{redundant_ok}
 use Rattle.points_kept.proofs.ForcesCorner.{forces_min_ok, forces_max_ok}
 
-forget : {M : Model} {w0 : Work} {s : Step} → Each M (From M w0) s → Each M (GoodW M) s
+forget : {M : Model} {Sought : PointSet} {w0 : Work} {s : Step} → Each M Sought (From M Sought w0) s → Each M Sought (GoodW M Sought) s
 forget (stopped n) = stopped n
 forget (went f) = went f.good
 
-module _ {M : Model} {w : Work} {r : ℕ} {row : Row} (σ : AtWork M w r row) (margin : NonNeg M.params.redundant_margin) (nz : All NonZero row.terms) where
+module _ {M : Model} {Sought : PointSet} {w : Work} {r : ℕ} {row : Row} (σ : AtWork M Sought w r row) (margin : NonNeg M.params.redundant_margin) (nz : All NonZero row.terms) where
   -- A ROW OF SEVERAL TERMS keeps the invariant
-  pub several_ok : Each M (GoodW M) (several_terms M r row w)
+  pub several_ok : Each M Sought (GoodW M Sought) (several_terms M r row w)
   unfolding several_terms
   several_ok =
-      let E = Each M (GoodW M) in
+      let E = Each M Sought (GoodW M Sought) in
       let wact = activity M w row true in
       let e = activity M w row false in
       let n : length row.terms ≤ 256 = omega (arith, σ.ok.count) in

@@ -1,4 +1,4 @@
--- `presolve` from its start: crossed bounds have no point, rounding moves no bound, rows that are read are in the invariant; so the answer is exact.
+-- `presolve` from its start: crossed bounds have no point, rounding moves no bound, and rows that are read are in the invariant, for the model's points.
 use Prim.Native.Nat.{ℕ, zero, suc, ◌+◌, ◌^◌, ◌≤◌, ◌<◌}
 use native.Mathlib.Omega.{arith}
 use Rattle.std.specs.Prelude.{◌≡◌, Bool, true, not, List, [], ◌∷◌, ◌++◌, eqb, ℤ, length, get_or, Float}
@@ -17,17 +17,18 @@ use Rattle.tolerances.specs.Laws.{laws}
 use Rattle.definition.specs.Model.{Model, nnz, op_of, rhs_of, is_int, Row, with_alive, as_written}
 use Rattle.definition.specs.Work.{no_row, trivial}
 use Rattle.definition.specs.Begin.{Bounds, cross, bounds, Rows, false_row, rows_are, crossed, rounded_lower, rounded_upper, round_var, round_from, add_row, read_row, read_from}
-use Rattle.points_kept.specs.Statements.{PureInteger}
+use Rattle.points_kept.specs.Statements.{PureInteger, Point}
 use Rattle.points_kept.proofs.Integers.{eq_parts}
 use Rattle.definition.specs.Choices.{both}
 use Rattle.definition.specs.Tests.{differ, last_or, test, taking, or, nor, if_true}
 use Rattle.points_kept.proofs.WholeFloats.{finite, of_lt, of_nlt, tolerance}
 use Rattle.points_kept.specs.Invariant.{RowAt, Good}
+use Rattle.points_kept.proofs.Invariant.{asks}
 use Rattle.points_kept.specs.Changes.{Sets}
 use Rattle.points_kept.proofs.Changes.{set_one}
 use Rattle.points_kept.proofs.Written.{as_written_ok}
 use Rattle.points_kept.proofs.Verdicts.{trivial_met, false_row_lem}
-use Rattle.points_kept.specs.Start.{Ranged, Read, ReadR, Rounded, RoundedB}
+use Rattle.points_kept.specs.Start.{InOrder, Ranged, Read, ReadR, Rounded, RoundedB}
 
 pub crossed_ok : (ls hs : List Float) (x : ℕ → ℤ) → length hs ≡ length ls → ((v : ℕ) → v < length ls → Ranged (at ls v) (at hs v) (x v)) → T (crossed ls hs) → ⊥
 unfolding crossed
@@ -134,13 +135,14 @@ module _ (M : Model) (pure : PureInteger M) where
       where
         e : r ≡ r + 0
         e = omega arith
-    read_from_lem (suc n) r s h g = subst (λ (k : ℕ). (ReadR M pure ls hs) k (read_from M n (suc r) (read_row M r s))) (e n) (read_from_lem n (suc r) (read_row M r s) (omega arith) (read_one r s (omega arith) g))
+    read_from_lem (suc n) r s h g = subst (λ (k : ℕ). (ReadR M pure ls hs) k (read_from M n (suc r) (read_row M r s))) (e n)
+        (read_from_lem n (suc r) (read_row M r s) (omega arith) (read_one r s (omega arith) g))
       where
         e : (n : ℕ) → suc r + n ≡ r + suc n
         e n = omega arith
 
     -- THE INVARIANT HOLDS when all rows have been read
-    pub start_good : (rows : List Row) → (Rounded M pure) ls hs → ((v : ℕ) → v < length M.lower → at M.upper v ⊀ at M.lower v) → (Read M pure ls hs) (length M.rhs) rows → Good M ls hs ls hs rows
+    pub start_good : (rows : List Row) → (Rounded M pure) ls hs → InOrder M → (Read M pure ls hs) (length M.rhs) rows → Good M (Point M) ls hs ls hs rows
     start_good rows r u g =
         record {
           wl_length = r.lo_length;
@@ -156,6 +158,7 @@ module _ (M : Model) (pure : PureInteger M) where
             order = omega (arith, of_nlt (pure.numbers.upper v h).whole (pure.numbers.lower v h).whole (u v h), eq_parts (r.lo v h).is, eq_parts (r.hi v h).is);
           };
           keeps = λ x p v h. (subst (λ (z : ℤ). z ⊑ x v) (sym (r.lo v h).is) (p.bounds v h).0, subst (λ (z : ℤ). x v ⊑ z) (sym (r.hi v h).is) (p.bounds v h).1);
+          asks = λ x p q h. asks M pure x p q h;
           shrinks = λ x k v h. (subst (λ (z : ℤ). z ⊑ x v) (r.lo v h).is (k v h).0, subst (λ (z : ℤ). x v ⊑ z) (r.hi v h).is (k v h).1);
           row = g.row;
         }

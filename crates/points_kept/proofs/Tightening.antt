@@ -1,4 +1,4 @@
--- `tighten_upper` and `tighten_lower` keep the invariant: an integer variable's implied bound, relaxed and rounded, is no tighter than its points allow.
+-- `tighten_upper` and `tighten_lower` keep the invariant: an integer variable's implied bound, relaxed and rounded, is no tighter than the points sought allow.
 use Prim.Native.Nat.{ℕ, ◌<◌}
 use Rattle.std.proofs.Common.{arith, sym, subst}
 use Rattle.std.proofs.Math.Path.{ap}
@@ -12,7 +12,7 @@ use Rattle.tolerances.specs.Laws.{laws}
 use Rattle.definition.specs.Model.{Model, is_int, tightened}
 use Rattle.definition.specs.Work.{Work, with_bounds, with_counts, Step}
 use Rattle.definition.specs.Bounds.{tighten_upper, tighten_lower, upper_int, lower_int, mark_tightened}
-use Rattle.points_kept.specs.Statements.{Point}
+use Rattle.points_kept.specs.PointSet.{PointSet}
 use Rattle.definition.specs.Tests.{taking, if_true}
 use Rattle.points_kept.proofs.WholeFloats.{held, of_le, of_lt, self, half_nonneg}
 use Rattle.points_kept.specs.Invariant.{Each, stopped, went}
@@ -20,19 +20,19 @@ use Rattle.points_kept.proofs.Intervals.{lowered, raised}
 use Rattle.points_kept.specs.Changes.{From}
 use Rattle.points_kept.proofs.Changes.{mark_var_lem, value, set_good, set_one, set_none, wider}
 
-module _ (M : Model) (w0 : Work) (v : ℕ) (w : Work) (h : v < length M.lower) (inv : From M w0 w) where
-  -- ---- a rounded upper bound, floor y, that no point's value is above
-  upper_int_ok : (y : Float) → Held y → ((x : ℕ → ℤ) → Point M x → Is (of_int binary64 (x v)) (x v) → of_int binary64 (x v) ≼ floor y) → Each M (From M w0) (upper_int M v (floor y) w)
+module _ (M : Model) {Sought : PointSet} (w0 : Work) (v : ℕ) (w : Work) (h : v < length M.lower) (inv : From M Sought w0 w) where
+  -- ---- a rounded upper bound, floor y, that the value of no point sought is above
+  upper_int_ok : (y : Float) → Held y → ((x : ℕ → ℤ) → Sought x → Is (of_int binary64 (x v)) (x v) → of_int binary64 (x v) ≼ floor y) → Each M Sought (From M Sought w0) (upper_int M v (floor y) w)
   unfolding upper_int mark_tightened
   upper_int_ok y hy sound =
-      let E : Step → Type 0 = Each M (From M w0) in
+      let E : Step → Type 0 = Each M Sought (From M Sought w0) in
       taking E (lt (floor y) (at w.ehi v ⊖ ½f))
       (λ a. taking E (lt (floor y) (at w.wlo v ⊖ ½f))
       (λ b. stopped (λ x p. crossing x p (record { lt = b })))
       (λ b. went (mark_var_lem M w0 v _ (update (record { lt = a }) (record { nlt = b })))))
       (λ a. went inv)
     where
-      crossing : (x : ℕ → ℤ) → Point M x → floor y ≺ (at w.wlo v ⊖ ½f) → ⊥
+      crossing : (x : ℕ → ℤ) → Sought x → floor y ≺ (at w.wlo v ⊖ ½f) → ⊥
       crossing x p b =
           let g = inv.good in
           let wl = (g.interval v h).wlo in
@@ -42,7 +42,7 @@ module _ (M : Model) (w0 : Work) (v : ℕ) (w : Work) (h : v < length M.lower) (
           omega (arith, ap P X.is, ap N X.is, ap P wl.is, ap N wl.is, (g.keeps x p v h).0)
 
       update : floor y ≺ (at w.ehi v ⊖ ½f) → floor y ⊀ (at w.wlo v ⊖ ½f)
-          → From M w0 (with_counts (tightened w.counts) (with_bounds w.wlo (set w.whi v (minf (at w.whi v) (floor y))) w.elo (set w.ehi v (floor y)) w))
+          → From M Sought w0 (with_counts (tightened w.counts) (with_bounds w.wlo (set w.whi v (minf (at w.whi v) (floor y))) w.elo (set w.ehi v (floor y)) w))
       update a b =
           let g = inv.good in
           let o = g.interval v h in
@@ -57,18 +57,18 @@ module _ (M : Model) (w0 : Work) (v : ℕ) (w : Work) (h : v < length M.lower) (
           ((g.keeps x p v h).0, omega (arith, ap P X.is, ap N X.is))) in
           record { good = s.0; nars = λ j k. wider M (inv.nars j k) (s.1 j k); rows = inv.rows }
 
-  -- ---- a rounded lower bound, ceil y, that no point's value is below
-  lower_int_ok : (y : Float) → Held y → ((x : ℕ → ℤ) → Point M x → Is (of_int binary64 (x v)) (x v) → ceil y ≼ of_int binary64 (x v)) → Each M (From M w0) (lower_int M v (ceil y) w)
+  -- ---- a rounded lower bound, ceil y, that the value of no point sought is below
+  lower_int_ok : (y : Float) → Held y → ((x : ℕ → ℤ) → Sought x → Is (of_int binary64 (x v)) (x v) → ceil y ≼ of_int binary64 (x v)) → Each M Sought (From M Sought w0) (lower_int M v (ceil y) w)
   unfolding lower_int mark_tightened
   lower_int_ok y hy sound =
-      let E : Step → Type 0 = Each M (From M w0) in
+      let E : Step → Type 0 = Each M Sought (From M Sought w0) in
       taking E (lt (at w.elo v ⊕ ½f) (ceil y))
       (λ a. taking E (lt (at w.whi v ⊕ ½f) (ceil y))
       (λ b. stopped (λ x p. crossing x p (record { lt = b })))
       (λ b. went (mark_var_lem M w0 v _ (update (record { lt = a }) (record { nlt = b })))))
       (λ a. went inv)
     where
-      crossing : (x : ℕ → ℤ) → Point M x → (at w.whi v ⊕ ½f) ≺ ceil y → ⊥
+      crossing : (x : ℕ → ℤ) → Sought x → (at w.whi v ⊕ ½f) ≺ ceil y → ⊥
       crossing x p b =
           let g = inv.good in
           let wh = (g.interval v h).whi in
@@ -78,7 +78,7 @@ module _ (M : Model) (w0 : Work) (v : ℕ) (w : Work) (h : v < length M.lower) (
           omega (arith, ap P X.is, ap N X.is, ap P wh.is, ap N wh.is, (g.keeps x p v h).1)
 
       update : (at w.elo v ⊕ ½f) ≺ ceil y → (at w.whi v ⊕ ½f) ⊀ ceil y
-          → From M w0 (with_counts (tightened w.counts) (with_bounds (set w.wlo v (maxf (at w.wlo v) (ceil y))) w.whi (set w.elo v (ceil y)) w.ehi w))
+          → From M Sought w0 (with_counts (tightened w.counts) (with_bounds (set w.wlo v (maxf (at w.wlo v) (ceil y))) w.whi (set w.elo v (ceil y)) w.ehi w))
       update a b =
           let g = inv.good in
           let o = g.interval v h in
@@ -95,16 +95,16 @@ module _ (M : Model) (w0 : Work) (v : ℕ) (w : Work) (h : v < length M.lower) (
 
   -- ---- `tighten_upper` and `tighten_lower`: of an integer variable
   module _ (int : T (is_int M v)) (q relax : Float) where
-    pub upper_ok : ((x : ℕ → ℤ) → Point M x → Is (of_int binary64 (x v)) (x v) → of_int binary64 (x v) ≼ floor (q ⊕ relax)) → Each M (From M w0) (tighten_upper M v q relax w)
+    pub upper_ok : ((x : ℕ → ℤ) → Sought x → Is (of_int binary64 (x v)) (x v) → of_int binary64 (x v) ≼ floor (q ⊕ relax)) → Each M Sought (From M Sought w0) (tighten_upper M v q relax w)
     unfolding tighten_upper
     upper_ok sound =
-        taking (Each M (From M w0)) (is_finite q)
-        (λ _. if_true (Each M (From M w0)) (is_int M v) _ int (upper_int_ok (q ⊕ relax) (laws.fits_add q relax) sound))
+        taking (Each M Sought (From M Sought w0)) (is_finite q)
+        (λ _. if_true (Each M Sought (From M Sought w0)) (is_int M v) _ int (upper_int_ok (q ⊕ relax) (laws.fits_add q relax) sound))
         (λ _. went inv)
 
-    pub lower_ok : ((x : ℕ → ℤ) → Point M x → Is (of_int binary64 (x v)) (x v) → ceil (q ⊖ relax) ≼ of_int binary64 (x v)) → Each M (From M w0) (tighten_lower M v q relax w)
+    pub lower_ok : ((x : ℕ → ℤ) → Sought x → Is (of_int binary64 (x v)) (x v) → ceil (q ⊖ relax) ≼ of_int binary64 (x v)) → Each M Sought (From M Sought w0) (tighten_lower M v q relax w)
     unfolding tighten_lower
     lower_ok sound =
-        taking (Each M (From M w0)) (is_finite q)
-        (λ _. if_true (Each M (From M w0)) (is_int M v) _ int (lower_int_ok (q ⊖ relax) (laws.fits_sub q relax) sound))
+        taking (Each M Sought (From M Sought w0)) (is_finite q)
+        (λ _. if_true (Each M Sought (From M Sought w0)) (is_int M v) _ int (lower_int_ok (q ⊖ relax) (laws.fits_sub q relax) sound))
         (λ _. went inv)

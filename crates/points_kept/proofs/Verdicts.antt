@@ -20,7 +20,7 @@ use Rattle.tolerances.specs.Laws.{laws}
 use Rattle.tolerances.specs.Budget.{row_tol}
 use Rattle.definition.specs.Model.{Model, op_of, rhs_of, written, from, nnz}
 use Rattle.definition.specs.Work.{trivial}
-use Rattle.points_kept.specs.Statements.{PureInteger, dot}
+use Rattle.points_kept.specs.Statements.{PureInteger, dot, Point}
 use Rattle.points_kept.proofs.Integers.{eq_parts}
 use Rattle.definition.specs.Tests.{or, nor, test, chosen, unchosen}
 use Rattle.points_kept.proofs.WholeFloats.{finite, not_infinite, held, self, of_lt, zero_is, tol_nonneg, tolerance, abs_bounded, abs_pos, ∞_is, -∞_is}
@@ -165,7 +165,7 @@ module _ (M : Model) (pure : PureInteger M) where
       go (suc n) e t = absurd (verdict_none (op_of M r) n (rhs_of M r) (pure.numbers.rhs r hr).whole (subst (λ (n : ℕ). T (says_true (trivial_verdict M.feas (op_of M r) n (rhs_of M r)))) e t))
 
   -- one that fails is met by none
-  pub false_row_lem : (r : ℕ) → r < length M.rhs → (n : ℕ) → nnz M r ≡ n → trivial_verdict M.feas (op_of M r) n (rhs_of M r) ≡ some false → NoPoint M
+  pub false_row_lem : (r : ℕ) → r < length M.rhs → (n : ℕ) → nnz M r ≡ n → trivial_verdict M.feas (op_of M r) n (rhs_of M r) ≡ some false → NoPoint M (Point M)
   unfolding trivial_verdict choose
   false_row_lem r h zero e q x p = verdict_false (op_of M r) (rhs_of M r) (pure.numbers.rhs r h) q (subst (λ (z : ℤ). Sided (op_of M r) z (int (rhs_of M r))) (nil x r e) (asks M pure x p r h))
   false_row_lem r h (suc n) e q x p = go (is_infinite (rhs_of M r)) (eqb (suc n) 0)

@@ -12,13 +12,14 @@ use Rattle.definition.specs.declared.Activity.{Activity}
 use Rattle.definition.specs.Model.{Model, written, nnz, op_of, rhs_of, is_mip, is_int_domain, is_int, Row, rhs_mag}
 use Rattle.definition.specs.Work.{Work, budget}
 use Rattle.definition.specs.Sides.{hi_side, lo_side, mag_l, mag_u, budget_l, budget_u}
-use Rattle.points_kept.specs.Statements.{PureInteger, dot, Within, Point}
+use Rattle.points_kept.specs.PointSet.{PointSet}
+use Rattle.points_kept.specs.Statements.{PureInteger, dot, Within}
 use Rattle.points_kept.proofs.Integers.{eq_parts}
 use Rattle.definition.specs.Tests.{and, taking, all_true}
 use Rattle.points_kept.proofs.WholeFloats.{∞_not, -∞_not, zero_is, tol_nonneg, whole_nonneg, tolerance, sum, mag_sum, mag_abs}
 use Rattle.points_kept.specs.WholeFloats.{Mag}
 use Rattle.points_kept.specs.Invariant.{Sided, RowSided}
-use Rattle.points_kept.proofs.Invariant.{asks, agree_within}
+use Rattle.points_kept.proofs.Invariant.{agree_within}
 use Rattle.points_kept.specs.Activity.{ActivityOf, L, H}
 use Rattle.points_kept.proofs.Activity.{corner_mag}
 use Rattle.points_kept.specs.WorkingRow.{AtWork}
@@ -35,7 +36,7 @@ int_var M pure v h = all_true (not (eqb M.mode 0)) (not (eqb (get_or M.domain v 
     whole (inl e) = subst (λ (m : ℕ). T (not (eqb m 1))) (sym e) tt
     whole (inr e) = subst (λ (m : ℕ). T (not (eqb m 1))) (sym e) tt
 
-module _ {M : Model} {w : Work} {r : ℕ} {row : Row} (σ : AtWork M w r row) where
+module _ {M : Model} {Sought : PointSet} {w : Work} {r : ℕ} {row : Row} (σ : AtWork M Sought w r row) where
   -- ---- within the bounds, what is left of the row says what the row says
   pub left_is : (x : ℕ → ℤ) → Within (length M.lower) w.elo w.ehi x → dot x (written M r) +ℤ σ.ok.b ≡ dot x row.terms +ℤ int (rhs_of M r)
   left_is x h = σ.ok.same x (agree_within M w.wlo w.whi w.elo w.ehi x σ.good.el_length σ.good.interval h)
@@ -56,9 +57,9 @@ module _ {M : Model} {w : Work} {r : ℕ} {row : Row} (σ : AtWork M w r row) wh
         above = λ t. omega (arith, m.above t, add_parts (dot x (written M r)) σ.ok.b, add_parts (dot x row.terms) (int (rhs_of M r)));
       }
 
-  -- a point meets what is left of the row
-  pub point_meets : (x : ℕ → ℤ) → Point M x → Sided (op_of M r) (dot x row.terms) σ.ok.b
-  point_meets x p = met_out x (σ.good.keeps x p) (asks M σ.pure x p r σ.range)
+  -- a point sought meets what is left of the row
+  pub point_meets : (x : ℕ → ℤ) → Sought x → Sided (op_of M r) (dot x row.terms) σ.ok.b
+  point_meets x p = met_out x (σ.good.keeps x p) (σ.good.asks x p r σ.range)
 
   -- ---- the sides
   pub finite_hi : T (is_finite row.hi) → T (not (eqb (op_of M r) 2))

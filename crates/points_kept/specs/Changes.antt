@@ -4,6 +4,7 @@ use Rattle.std.specs.Prelude.{◌≡◌, ◌≢◌, List, length, Float}
 use Rattle.tolerances.specs.Tol.{at}
 use Rattle.definition.specs.Model.{Model}
 use Rattle.definition.specs.Work.{Work}
+use Rattle.points_kept.specs.PointSet.{PointSet}
 use Rattle.points_kept.specs.Invariant.{Narrower, GoodW}
 
 -- ---- a list with one element changed, or none
@@ -17,7 +18,7 @@ module _ (M : Model) where
   Nars w x = (v : ℕ) → v < length M.lower → Narrower w.elo w.ehi x.elo x.ehi v
 
   -- good, and no wider than w
-  pub record From (w x : Work) : Type 0 where
-    pub good : GoodW M x
+  pub record From (Sought : PointSet) (w x : Work) : Type 0 where
+    pub good : GoodW M Sought x
     pub nars : Nars w x
     pub rows : x.rows ≡ w.rows

@@ -7,6 +7,7 @@ use Rattle.tolerances.specs.Tol.{Term}
 use Rattle.definition.specs.Model.{Model, Row}
 use Rattle.definition.specs.Work.{Work, no_term}
 use Rattle.definition.specs.Folds.{swap_remove}
+use Rattle.points_kept.specs.PointSet.{PointSet}
 use Rattle.points_kept.specs.Terms.{All, NonZero}
 use Rattle.points_kept.specs.Invariant.{RowOk, GoodW}
 
@@ -25,7 +26,7 @@ module _ (ts : List Term) (i : ℕ) (h : i < length ts) where
 abbrev pub tv : (ℕ → ℤ) → Term → ℤ
 tv x t = int t.coeff *ℤ x t.var
 
-module _ (M : Model) (w : Work) (g : GoodW M w) (r : ℕ) where
+module _ (M : Model) {Sought : PointSet} (w : Work) (g : GoodW M Sought w) (r : ℕ) where
   -- ---- the loop: the first i terms have been looked at and stay, n have not
   pub record Folding (row0 : Row) (n : ℕ) (s : ℕ × Row) : Type 0 where
     pub ok : RowOk M w.elo w.ehi r s.1

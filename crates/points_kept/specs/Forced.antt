@@ -7,6 +7,7 @@ use Rattle.definition.specs.declared.Activity.{Activity}
 use Rattle.definition.specs.Model.{Model, Row}
 use Rattle.definition.specs.Work.{Work}
 use Rattle.definition.specs.Forcing.{corner}
+use Rattle.points_kept.specs.PointSet.{PointSet}
 use Rattle.points_kept.specs.Statements.{Within}
 use Rattle.points_kept.specs.Terms.{All, TermOk, NonZero}
 use Rattle.points_kept.specs.Invariant.{GoodW}
@@ -23,23 +24,24 @@ unfoldable pub corner_sum : Bool → Work → List Term → ℤ
 corner_sum mc w0 [] = pos 0
 corner_sum mc w0 (t ∷ ts) = int t.coeff *ℤ int (corner mc w0 t) +ℤ corner_sum mc w0 ts
 
-module _ (M : Model) (w0 : Work) (g0 : GoodW M w0) where
+module _ (M : Model) {Sought : PointSet} (w0 : Work) (g0 : GoodW M Sought w0) where
   -- the variable of t has the bounds that it had in w0
   abbrev pub Kept : Work → Term → Type 0
   Kept w t = (int (at w.elo t.var) ≡ L M w0 t.var) × (int (at w.ehi t.var) ≡ H M w0 t.var)
 
   pub record FixedAt (w : Work) (v : ℕ) (c : Float) (x : Work) : Type 0 where
-    pub from : From M w0 x
+    pub from : From M Sought w0 x
     pub nars : Nars M w x
     pub elo : x.elo ≡ set w.elo v c
     pub ehi : x.ehi ≡ set w.ehi v c
 
   pub record AllFixed (mc : Bool) (w : Work) (ts : List Term) (x : Work) : Type 0 where
-    pub from : From M w0 x
+    pub from : From M Sought w0 x
     pub nars : Nars M w x
     pub at_corner : (y : ℕ → ℤ) → Within (length M.lower) x.elo x.ehi y → All (AtCorner mc w0 y) ts
 
-module _ {M : Model} {w0 : Work} {r : ℕ} {row : Row} (σ : AtWork M w0 r row) (nz : All NonZero row.terms) {e : Activity} (a : ActivityOf (L M w0) (H M w0) row.terms e) where
+module _ {M : Model} {Sought : PointSet} {w0 : Work} {r : ℕ} {row : Row} (σ : AtWork M Sought w0 r row) (nz : All NonZero row.terms) {e : Activity}
+    (a : ActivityOf (L M w0) (H M w0) row.terms e) where
   abbrev pub TS : List Term
   TS = row.terms
 

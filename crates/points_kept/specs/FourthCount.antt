@@ -1,4 +1,4 @@
--- THE FOURTH COUNT, of rewritten coefficients, is the same after any number of waves: whatever a wave does, it rewrites none.
+-- THE FOURTH COUNT, of rewritten coefficients, is the same after any number of waves, and after dual fixing: whatever these do, they rewrite none.
 use Prim.Native.Nat.{ℕ}
 use Rattle.std.specs.Prelude.{◌≡◌}
 use Rattle.definition.specs.declared.Counts.{Counts}

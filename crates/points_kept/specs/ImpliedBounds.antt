@@ -8,6 +8,7 @@ use Rattle.tolerances.specs.Tol.{Term}
 use Rattle.definition.specs.declared.Activity.{Activity}
 use Rattle.definition.specs.Model.{Model, Row}
 use Rattle.definition.specs.Work.{Work}
+use Rattle.points_kept.specs.PointSet.{PointSet}
 use Rattle.points_kept.specs.Statements.{dot, Within}
 use Rattle.points_kept.specs.Terms.{TermOk, least, most, low, high, NonZero}
 use Rattle.points_kept.specs.Activity.{ActivityOf, L, H}
@@ -31,7 +32,7 @@ module _ (M : Model) (w : Work) where
     pub lo : (x : ℕ → ℤ) → Within (length M.lower) w.elo w.ehi x → lows ts +ℤ int t.coeff *ℤ x t.var ⊑ dot x ts +ℤ lo₀ t
     pub hi : (x : ℕ → ℤ) → Within (length M.lower) w.elo w.ehi x → dot x ts +ℤ hi₀ t ⊑ highs ts +ℤ int t.coeff *ℤ x t.var
 
-module _ {M : Model} {w0 : Work} {r : ℕ} {row : Row} (σ : AtWork M w0 r row) where
+module _ {M : Model} {Sought : PointSet} {w0 : Work} {r : ℕ} {row : Row} (σ : AtWork M Sought w0 r row) where
   module _ {act : Activity} (a : ActivityOf (L M w0) (H M w0) row.terms act) where
     -- what is known of each term
     abbrev pub Known : Term → Type 0

@@ -1,5 +1,5 @@
--- THE INVARIANT of the work on a model of whole numbers: bounds are whole and in order, no point is lost, each row at work says what the written row says, and
--- each dropped one is met within the bounds.
+-- THE INVARIANT of the work on a model of whole numbers: bounds are whole and in order, none of the points sought is lost, each row at work says what the written
+-- row says, and each dropped one is met within the bounds.
 use Rattle.std.specs.Prelude.{ℕ, ◌+◌, ◌*◌, ◌^◌, ◌≤◌, ◌<◌, ◌≡◌, Bool, false, not, ◌&&◌, List, eqb, ℤ, pos, ◌+ℤ◌, get_or, Float}
 use Rattle.std.proofs.Math.Option.{none}
 use Rattle.std.proofs.Math.Dec.{T}
@@ -12,7 +12,8 @@ use Rattle.tolerances.specs.Tol.{at}
 use Rattle.definition.specs.declared.Counts.{Counts}
 use Rattle.definition.specs.Model.{Model, written, op_of, rhs_of, Row}
 use Rattle.definition.specs.Work.{Work, Step, stop, next, no_row}
-use Rattle.points_kept.specs.Statements.{dot, Within, Point}
+use Rattle.points_kept.specs.PointSet.{PointSet}
+use Rattle.points_kept.specs.Statements.{dot, Within}
 use Rattle.points_kept.specs.Terms.{All, TermOk, Distinct}
 
 -- ---- bounds at work: whole, of a size, in order, the working ones the emitted ones as numbers
@@ -80,26 +81,28 @@ module _ (M : Model) where
     pub alive : T row.alive → RowOk el eh r row
     pub dead : T (not row.alive) → (x : ℕ → ℤ) → Within (length M.lower) el eh x → RowSided M r x
 
-  pub record Good (wl wh el eh : List Float) (rows : List Row) : Type 0 where
+  -- for a set of points sought: the model's, or a state's own
+  pub record Good (Sought : PointSet) (wl wh el eh : List Float) (rows : List Row) : Type 0 where
     pub wl_length : length wl ≡ length M.lower
     pub wh_length : length wh ≡ length M.lower
     pub el_length : length el ≡ length M.lower
     pub eh_length : length eh ≡ length M.lower
     pub rows_length : length rows ≡ length M.rhs
     pub interval : (v : ℕ) → v < length M.lower → IntervalAt wl wh el eh v
-    pub keeps : (x : ℕ → ℤ) → Point M x → Within (length M.lower) el eh x
+    pub keeps : (x : ℕ → ℤ) → Sought x → Within (length M.lower) el eh x
+    pub asks : (x : ℕ → ℤ) → Sought x → (r : ℕ) → r < length M.rhs → RowSided M r x
     pub shrinks : (x : ℕ → ℤ) → Within (length M.lower) el eh x → Within (length M.lower) M.lower M.upper x
     pub row : (r : ℕ) → r < length M.rhs → RowAt el eh r (get_or rows r no_row)
 
-  abbrev pub GoodW : Work → Type 0
-  GoodW w = Good w.wlo w.whi w.elo w.ehi w.rows
+  abbrev pub GoodW : PointSet → Work → Type 0
+  GoodW Sought w = Good Sought w.wlo w.whi w.elo w.ehi w.rows
 
-  abbrev pub NoPoint : Type 0
-  NoPoint = (x : ℕ → ℤ) → Point M x → ⊥
+  abbrev pub NoPoint : PointSet → Type 0
+  NoPoint Sought = (x : ℕ → ℤ) → Sought x → ⊥
 
-  pub data Each (Q : Work → Type 0) : Step → Type 0 where
-    stopped : {k : Counts} → NoPoint → Each Q (stop k)
-    went : {w : Work} → Q w → Each Q (next w)
+  pub data Each (Sought : PointSet) (Q : Work → Type 0) : Step → Type 0 where
+    stopped : {k : Counts} → NoPoint Sought → Each Sought Q (stop k)
+    went : {w : Work} → Q w → Each Sought Q (next w)
 
   abbrev pub Intervals : List Float → List Float → List Float → List Float → Type 0
   Intervals wl wh el eh = (v : ℕ) → v < length M.lower → IntervalAt wl wh el eh v

@@ -1,12 +1,14 @@
--- Presolve keeps exactly the points of a model of whole numbers alone. `Statements` says it, `Reading` how it reads; `Theorem` has it. And the activity of a
--- row that is not rewritten is exact, in every state that presolve reaches on such a model: `ActivityEverywhere` has it.
+-- Presolve keeps exactly the points of a model of whole numbers alone. `Statements` says it, `Reading` how it reads; `Theorem` has it, as one case of a theorem up
+-- to dominance, whose other cases are best_kept's. And the activity of a row that is not rewritten is exact, in every state that presolve reaches on such a
+-- model: `ActivityEverywhere` has it.
 pub mod Statements
--- whole floats, lists of terms, and the invariant over the working state
+-- whole floats, lists of terms, and the invariant over the working state, for any set of points sought
+pub mod PointSet
 pub mod WholeFloats
 pub mod Terms
 pub mod Invariant
 pub mod Changes
--- one file a step function: each keeps the invariant, and stops only where there is no point
+-- one file a step function: each keeps the invariant, and stops only where there is none of the points sought
 pub mod Activity
 pub mod WorkingRow
 pub mod Quotients
@@ -19,9 +21,10 @@ pub mod Folding
 pub mod Written
 pub mod ImpliedSlack
 pub mod NoTerm
--- the order of the steps
+-- the order of the steps, up to dominance
 pub mod FourthCount
 pub mod Coefficients
+pub mod Dominance
 pub mod Rounds
 pub mod Output
 pub mod Start

@@ -6,18 +6,19 @@ use Rattle.tolerances.specs.Tol.{Term, outside, slack_min, slack_max, row_tolera
 use Rattle.definition.specs.Model.{Model, op_of, rhs_of, written, Row}
 use Rattle.definition.specs.Work.{Work}
 use Rattle.definition.specs.Singles.{fixed_value}
+use Rattle.points_kept.specs.PointSet.{PointSet}
 use Rattle.points_kept.specs.Statements.{Within}
 use Rattle.points_kept.specs.Invariant.{RowSided, GoodW}
 use Rattle.points_kept.specs.WorkingRow.{AtWork}
 
 -- good, with the bounds of w, within which row r is met
-pub record Beside (M : Model) (r : ℕ) (w x : Work) : Type 0 where
-  pub good : GoodW M x
+pub record Beside (M : Model) (Sought : PointSet) (r : ℕ) (w x : Work) : Type 0 where
+  pub good : GoodW M Sought x
   pub met : (y : ℕ → ℤ) → Within (length M.lower) w.elo w.ehi y → RowSided M r y
   pub elo : x.elo ≡ w.elo
   pub ehi : x.ehi ≡ w.ehi
 
-module _ {M : Model} {w : Work} {r : ℕ} {row : Row} (σ : AtWork M w r row) (e : row.terms ≡ []) where
+module _ {M : Model} {Sought : PointSet} {w : Work} {r : ℕ} {row : Row} (σ : AtWork M Sought w r row) (e : row.terms ≡ []) where
   abbrev pub B : Float
   B = rhs_of M r
 

@@ -4,9 +4,9 @@
 use Rattle.std.specs.Prelude.{ℕ, ◌<◌, ◌≡◌, ℤ, length}
 use Rattle.definition.specs.Model.{Model, Reduced, Answer, infeasible, done}
 use Rattle.definition.specs.Work.{Work}
-use Rattle.best_kept.specs.PointSet.{PointSet}
+use Rattle.points_kept.specs.PointSet.{PointSet}
 use Rattle.points_kept.specs.Statements.{Within, Point, MeetsReduced, WholeReduced}
-use Rattle.best_kept.specs.Invariant.{RowSided, GoodW, NoPoint}
+use Rattle.points_kept.specs.Invariant.{RowSided, GoodW, NoPoint}
 
 -- D y x: y dominates x
 abbrev pub Dominance : Type 1

@@ -4,10 +4,10 @@
 use Rattle.std.specs.Prelude.{ℕ, ℤ}
 use Rattle.definition.specs.Model.{Model}
 use Rattle.definition.specs.Work.{Work}
-use Rattle.best_kept.specs.PointSet.{PointSet}
+use Rattle.points_kept.specs.PointSet.{PointSet}
 use Rattle.points_kept.specs.Statements.{Point}
-use Rattle.best_kept.specs.Invariant.{GoodW}
-use Rattle.best_kept.specs.Dominance.{At, Dominance, Dominating}
+use Rattle.points_kept.specs.Invariant.{GoodW}
+use Rattle.points_kept.specs.Dominance.{At, Dominance, Dominating}
 
 -- a state that is good for some points is good for any that are its own
 pub good_for : (M : Model) {S T : PointSet} (w : Work) → GoodW M S w → ((x : ℕ → ℤ) → T x → At M w x) → GoodW M T w
