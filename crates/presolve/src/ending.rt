@@ -9,7 +9,7 @@ ghost use Rattle.output.specs.Answered.{BoundsAndRows};
 ghost use Rattle.presolve.specs.Promise.{working_of, SameSpace, infeasible, presolved_is, working_after};
 ghost use Rattle.presolve.specs.Steps.{Finished};
 
-use crate::{Presolved, Space};
+use crate::{Presolved, Space, zeros};
 use definition::Input;
 use output::Results;
 use space::Context;
@@ -19,9 +19,7 @@ fn clear(space: &mut Space)
     ensures same { SameSpace space.old space.new }
     ensures zeros { working_of space.new ≡ working_after none (working_of space.old) }
 {
-    space.floats.fill(0.0);
-    space.numbers.fill(0);
-    space.adjacency.fill(0);
+    zeros::clear(space.floats, space.numbers, space.adjacency);
 }
 
 // Infeasible, with the counts reached.

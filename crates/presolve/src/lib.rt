@@ -6,6 +6,7 @@
 mod accepted;
 mod call;
 mod ending;
+mod zeros;
 
 pub use call::{lent_lengths, presolve, reduced_model};
 use definition::Counts;
