@@ -1,6 +1,6 @@
 // `fix`, `emit_bounds`, `tighten_upper` and `tighten_lower` of src/presolve/work.rs of microlp 0.7.0,
 // changed: what changes a variable's bounds.
-ghost use Rattle.std.specs.Prelude.{◌≡◌, true, ◌<◌, length, get_or};
+ghost use Rattle.std.specs.Prelude.{◌≡◌, true, ◌<◌, length};
 ghost use Rattle.definition.specs.Bounds as definition;
 ghost use Rattle.space.specs.Store.{floats_of, numbers_of, HoldsF, HoldsN};
 ghost use Rattle.view.specs.Acts.{Ready, Acts, Tries, ReadyN, ActsN};

@@ -1,7 +1,7 @@
 -- A row as written, judged where its variables are fixed: the walk over its terms, and the verdict.
 use Prim.Native.Nat.{ℕ, suc, ◌+◌, ◌-◌, ◌≤◌, ◌<◌}
 use Rattle.std.proofs.Common.{arith, add-one, sym, ◌∙◌}
-use Rattle.std.specs.Prelude.{Option, unwrap_or, ◌≡◌, refl, Bool, true, false, not, ◌&&◌, take, drop, Float}
+use Rattle.std.specs.Prelude.{◌≡◌, refl, Bool, true, false, not, ◌&&◌, take, drop, Float}
 use Rattle.std.proofs.Math.Path.{ap}
 use mathlib.Core.List.{List, [], ◌∷◌}
 use Rattle.std.proofs.Math.ListN.{length, get_or, length-take, length-drop}
@@ -11,7 +11,7 @@ use Rattle.cdouble.specs.declared.CDouble.{CDouble}
 use Rattle.tolerances.specs.Tol.{Term, term, zip_terms, trivial_verdict, says_true, implied_slack, violated, row_start, row_term, row_slack, slack_violates}
 use Rattle.tolerances.specs.declared.RowSum.{RowSum}
 use Rattle.tolerances.specs.declared.Implied.{Implied}
-use Rattle.tolerances.specs.Answers.{sum_of, pair_of, option_of, says_unwrap}
+use Rattle.tolerances.specs.Answers.{sum_of, pair_of}
 use Rattle.tolerances.specs.Terms.{row_from, slack_by_terms, violated_by_slack}
 use Rattle.definition.specs.declared.Rows.{Rows}
 use Rattle.definition.specs.Model.{Model, from, upto, nnz, written, op_of, rhs_of}

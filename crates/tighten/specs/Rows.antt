@@ -21,7 +21,7 @@ use Rattle.view.specs.declared.Lists.{Lists}
 use Rattle.view.specs.Call.{Call}
 use Rattle.view.specs.Shows.{is_one, Shows}
 use Rattle.view.specs.Inv.{Inv}
-use Rattle.view.specs.Lists.{yes, no, either, one_is, one_not, zero_is, get_d_map, length_map}
+use Rattle.view.specs.Lists.{yes, no, either, one_is, one_not, get_d_map, length_map}
 use Rattle.view.specs.Acts.{Ready, Reads, of_numbers, ready_after}
 use Rattle.view.specs.Changes.{ActsBool, KeepsBool}
 use Rattle.view.specs.Known.{Spans}
