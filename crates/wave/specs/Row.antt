@@ -22,7 +22,7 @@ use Rattle.readers.specs.RowAt.{row_alive, alive_of}
 use Rattle.bounds.specs.Same.{passes_of, Leaves, same, same_after}
 use Rattle.folds.specs.Stands.{Turns, turns_acts}
 use Rattle.folds.specs.Kept.{fold_fixed_kept, fold_fixed_keeps}
-use Rattle.several.specs.ByCount.{inv_count, passes_count}
+use Rattle.wave.specs.ByCount.{inv_count, passes_count}
 
 -- what a wave's row asks: one row of the wave, this one, is still to come
 pub record ReadyRow (P : Model → Type 0) (s : Context) (f : Floats) (n : Numbers) : Type 0 where

@@ -6,6 +6,7 @@ ghost use Rattle.space.specs.Store.{floats_of, numbers_of, HoldsF, HoldsN};
 ghost use Rattle.view.specs.Known.{Known};
 ghost use Rattle.wave.specs.Row.{ReadyRow, TriesRow};
 
+use crate::count::by_count;
 use definition::Infeasible;
 use space::{Alive, Context, Dirty};
 use view::Lists;
@@ -26,7 +27,7 @@ pub(crate) fn wave_row(
     space::put::<Dirty>(numbers, cx, r, 0);
     if space::get::<Alive>(numbers, cx, r) == 1 {
         folds::fold_row(lists.rows, floats, numbers, cx, r);
-        return several::by_count(lists, floats, numbers, cx, r);
+        return by_count(lists, floats, numbers, cx, r);
     }
     Ok(())
 }

@@ -15,8 +15,8 @@ use Rattle.definition.specs.Implied.{implied_bounds}
 use Rattle.definition.specs.Wave.{several_terms}
 use Rattle.space.specs.declared.Context.{Context}
 use Rattle.space.specs.Store.{Floats, Numbers}
-use Rattle.several.specs.declared.several.Ending.{Ending}
-use Rattle.several.specs.declared.several.Ending.TheVariants.{ForceMin, ForceMax, Drop, Open}
+use Rattle.wave.specs.declared.several.Ending.{Ending}
+use Rattle.wave.specs.declared.several.Ending.TheVariants.{ForceMin, ForceMax, Drop, Open}
 use Rattle.formulas.specs.declared.Limits.{Limits}
 use Rattle.formulas.specs.Bare.{bare, Of, Says, ByParams, unreachable_of, redundant_of}
 use Rattle.formulas.specs.Reduce.{may_reduce, may_reduce_of, several_of}

@@ -13,7 +13,7 @@ ghost use Rattle.view.specs.Acts.{Ready, Reads, Acts, Tries};
 ghost use Rattle.readers.specs.Reading.{row_of, Alive};
 ghost use Rattle.readers.specs.Limits.{ReadsLimits};
 ghost use Rattle.readers.specs.Knowing.{Looks, Marks, BoundingRows};
-ghost use Rattle.several.specs.Several.{end_if, end_of, reached};
+ghost use Rattle.wave.specs.Several.{end_if, end_of, reached};
 
 use definition::{Activity, Infeasible};
 use formulas::Limits;

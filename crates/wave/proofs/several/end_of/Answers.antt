@@ -1,7 +1,7 @@
 -- `end_of` is endOf, where the working activity lets the row be forcing or redundant; else the row stays open.
-use Rattle.several.specs.Several.{end_skips, end_min, end_max, end_drop, end_open}
+use Rattle.wave.specs.Several.{end_skips, end_min, end_max, end_drop, end_open}
 use Rattle.std.proofs.Common.{ap, not}
-use Rattle.several.proofs.several.end_of.Goals as goal
+use Rattle.wave.proofs.several.end_of.Goals as goal
 
 pub returns-then-not-reduces : goal.returns-then-not-reduces
 returns-then-not-reduces c = end_skips c.args.reduces _ (ap not c.if-not-reduces.true)

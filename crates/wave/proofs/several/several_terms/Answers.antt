@@ -3,8 +3,8 @@ use Rattle.std.proofs.Common.{sym}
 use Rattle.view.specs.Steps.{ready_under, stop_is}
 use Rattle.readers.specs.Knowing.{moves_spans, moves_looks, moves_marks, span_at}
 use Rattle.view.specs.Renamed.{tries_is}
-use Rattle.several.specs.Several.{several_stop, several_min, several_max, several_drop, several_implied}
-use Rattle.several.proofs.several.several_terms.Goals as goal
+use Rattle.wave.specs.Several.{several_stop, several_min, several_max, several_drop, several_implied}
+use Rattle.wave.proofs.several.several_terms.Goals as goal
 
 pub limits-x-requires : goal.limits-x-requires
 limits-x-requires c = search (span_at, moves_spans)

@@ -1,6 +1,6 @@
 -- `by_count` is by_count.
-use Rattle.several.specs.ByCount.{by_none, by_one, by_more}
-use Rattle.several.proofs.one_row.by_count.Goals as goal
+use Rattle.wave.specs.ByCount.{by_none, by_one, by_more}
+use Rattle.wave.proofs.count.by_count.Goals as goal
 
 pub returns-then-n-eq0 : goal.returns-then-n-eq0
 returns-then-n-eq0 c = by_none _ c.requires.r_lt_rows.0 c.requires.r_lt_rows.3 c.get-n.ensures c.if-n-eq0.true

@@ -24,7 +24,7 @@ use Rattle.bounds.specs.Same.{passes_of, Leaves}
 use Rattle.view.specs.Renamed.{tries_as}
 use Rattle.singles.specs.Empty.{inv_empty, passes_empty}
 use Rattle.singles.specs.Singleton.{inv_single, passes_single}
-use Rattle.several.specs.Several.{inv_several, passes_several}
+use Rattle.wave.specs.Several.{inv_several, passes_several}
 
 module _ (M : Model) (r : ℕ) (row : Row) (w : Work) where
   count_none : (ts : List Term) → length ts ≡ 0 → by_count M r row ts w ≡ empty_row_check M r row w

@@ -1,6 +1,6 @@
 -- `reach_of` is unreachable and may_reduce.
-use Rattle.several.specs.Several.{reach_never, reach_reduces}
-use Rattle.several.proofs.several.reach_of.Goals as goal
+use Rattle.wave.specs.Several.{reach_never, reach_reduces}
+use Rattle.wave.proofs.several.reach_of.Goals as goal
 
 pub returns-then-above-below : goal.returns-then-above-below
 returns-then-above-below c = reach_never c.args.x c.args.act c.above_hi-above.ensures c.below_lo-below.ensures c.if-above-below.true

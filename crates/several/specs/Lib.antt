@@ -1,3 +1,0 @@
--- One row of a wave.
-pub mod Several
-pub mod ByCount
