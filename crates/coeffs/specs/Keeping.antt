@@ -16,19 +16,12 @@ use Rattle.definition.specs.Work.{Work, no_term, has, has_term}
 use Rattle.definition.specs.Rewrites.{Form, le_form, ge_form, no_form, Rewrite, keeps, coeff_only, coeff_bound}
 use Rattle.definition.specs.Bindings.{taken, rewrite_binding}
 use Rattle.definition.specs.Tighten.{set_coeff, rebound_row, row_after}
+use Rattle.definition.specs.Choices.{or_true_right, and_left}
 use Rattle.view.specs.Inv.{Distinct, distinct∷, AllIn, all_in∷, has_nonzero, BinariesIn, binaries_in[], binaries_in∷, BindingIn, none_in, some_in, RowInv}
 use Rattle.view.specs.Lists.{either}
 use Rattle.readers.specs.RowAt.{or_true}
 use Rattle.folds.specs.Written.{eqb_same, eqb_differ}
 use Rattle.folds.specs.Counting.{true_false}
-
-or_right : (a : Bool) {b : Bool} → b ≡ true → (a || b) ≡ true
-or_right true e = refl
-or_right false e = e
-
-and_first : (a b : Bool) → (a && b) ≡ true → a ≡ true
-and_first true b e = refl
-and_first false b e = e
 
 -- ---- the term at place i has another coefficient
 module _ (us : List Term) (t : Term) where
@@ -53,13 +46,13 @@ module _ (us : List Term) (t : Term) where
   set_nonzero z v [] i p e h = absurd (omega arith)
   set_nonzero z v (x ∷ ts) zero p e h =
       ⊎_elim
-      (λ y. rw (z, ap (λ (m : ℕ). eqb m v) e ∙ and_first (eqb x.var v) (not (eq x.coeff 0f)) y) refl)
-      (λ y. or_right (eqb t.var v && not (eq t.coeff 0f)) y)
+      (λ y. rw (z, ap (λ (m : ℕ). eqb m v) e ∙ and_left (eqb x.var v) (not (eq x.coeff 0f)) y) refl)
+      (λ y. or_true_right (eqb t.var v && not (eq t.coeff 0f)) _ y)
       (or_true (eqb x.var v && not (eq x.coeff 0f)) (has_nonzero v (ts ++ us)) h)
   set_nonzero z v (x ∷ ts) (suc i) p e h =
       ⊎_elim
       (λ y. rw y refl)
-      (λ y. or_right (eqb x.var v && not (eq x.coeff 0f)) (set_nonzero z v ts i (omega arith) e y))
+      (λ y. or_true_right (eqb x.var v && not (eq x.coeff 0f)) _ (set_nonzero z v ts i (omega arith) e y))
       (or_true (eqb x.var v && not (eq x.coeff 0f)) (has_nonzero v (ts ++ us)) h)
 
 -- ---- the binaries of a row whose terms lose no variable that is not zero
@@ -128,7 +121,7 @@ set_new : (us : List Term) (v : ℕ) (a : Float) → eq a 0f ≡ false → (ts :
 unfolding has_nonzero
 set_new us v a z [] i p = absurd (omega arith)
 set_new us v a z (x ∷ ts) zero p = rw (z, eqb_same v v refl) refl
-set_new us v a z (x ∷ ts) (suc i) p = or_right (eqb x.var v && not (eq x.coeff 0f)) (set_new us v a z ts i (omega arith))
+set_new us v a z (x ∷ ts) (suc i) p = or_true_right (eqb x.var v && not (eq x.coeff 0f)) _ (set_new us v a z ts i (omega arith))
 
 pub taken_in : {M : Model} {r : ℕ} {row : Row} (mag : Float) {o : Option Binding} → BindingIn M r row o → BinariesIn M r row (taken mag o).binaries
 unfolding taken

@@ -39,9 +39,25 @@ pub and_right : (a b : Bool) → a && b ≡ true → b ≡ true
 and_right true b e = e
 and_right false b e = true≢false e refl
 
+pub or_left : (a b : Bool) → a || b ≡ false → a ≡ false
+or_left true b e = true≢false refl e
+or_left false b e = refl
+
 pub or_right : (a b : Bool) → a || b ≡ false → b ≡ false
 or_right true b e = true≢false refl e
 or_right false b e = e
+
+pub or_true_left : (a b : Bool) → a ≡ true → a || b ≡ true
+or_true_left true b e = refl
+or_true_left false b e = true≢false e refl
+
+pub or_true_right : (a b : Bool) → b ≡ true → a || b ≡ true
+or_true_right true b e = refl
+or_true_right false b e = e
+
+pub and_false : (a b : Bool) → b ≡ false → a && b ≡ false
+and_false true b e = e
+and_false false b e = refl
 
 pub not_not : (a : Bool) → not a ≡ false → a ≡ true
 not_not true e = refl

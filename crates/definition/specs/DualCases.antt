@@ -1,5 +1,5 @@
 -- DUAL FIXING ON FOUR SMALL MODELS, by computing the definition: what lets a variable fall or rise, and what keeps it. x and y are Integer from 0 to 5, the mode is 2.
--- The theorem about them all is points_kept's `best_kept`.
+-- The theorem about them all is best_kept's theorem of that name.
 use Rattle.std.specs.Prelude.{◌≡◌, refl, true, false, List, [], ◌∷◌, Float}
 use Rattle.std.specs.Float.Ieee.{neg}
 use Rattle.definition.specs.Params.{params}

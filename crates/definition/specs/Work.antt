@@ -32,8 +32,11 @@ with_bounds a b c d w = record { wlo = a; whi = b; elo = c; ehi = d; rows = w.ro
 abbrev pub with_marks : List Bool → List Bool → List ℕ → Work → Work
 with_marks d c q w = record { wlo = w.wlo; whi = w.whi; elo = w.elo; ehi = w.ehi; rows = w.rows; dirty = d; coeff_dirty = c; queue = q; counts = w.counts }
 
+abbrev pub with_rows : List Row → Work → Work
+with_rows l w = record { wlo = w.wlo; whi = w.whi; elo = w.elo; ehi = w.ehi; rows = l; dirty = w.dirty; coeff_dirty = w.coeff_dirty; queue = w.queue; counts = w.counts }
+
 abbrev pub with_row : ℕ → Row → Work → Work
-with_row r x w = record { wlo = w.wlo; whi = w.whi; elo = w.elo; ehi = w.ehi; rows = set w.rows r x; dirty = w.dirty; coeff_dirty = w.coeff_dirty; queue = w.queue; counts = w.counts }
+with_row r x w = with_rows (set w.rows r x) w
 
 abbrev pub with_counts : Counts → Work → Work
 with_counts k w = record { wlo = w.wlo; whi = w.whi; elo = w.elo; ehi = w.ehi; rows = w.rows; dirty = w.dirty; coeff_dirty = w.coeff_dirty; queue = w.queue; counts = k }

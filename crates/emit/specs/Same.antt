@@ -7,6 +7,7 @@ use Rattle.std.specs.List.{list_any, range_with_len}
 use Rattle.std.specs.Float.Ieee.{eq, ne}
 use Rattle.std.proofs.lemmas.Bool.{not-true, not-false}
 use Rattle.definition.specs.Emit.{same_bounds}
+use Rattle.definition.specs.Choices.{and_false}
 use Rattle.view.specs.Rows.{same?}
 
 pub same_all : (xs ys : List Float) → length xs ≡ length ys → ((i : ℕ) → i < length xs → eq (get_or xs i nan) (get_or ys i nan) ≡ true) → same_bounds xs ys ≡ true
@@ -16,16 +17,12 @@ same_all [] (y ∷ ys) l h = absurd (omega (arith, l))
 same_all (x ∷ xs) [] l h = absurd (omega (arith, l))
 same_all (x ∷ xs) (y ∷ ys) l h = rw (h 0 (omega arith)) (same_all xs ys (omega (arith, l)) (λ i p. h (suc i) (omega (arith, p))))
 
-and_false : (b : Bool) → b && false ≡ false
-and_false true = refl
-and_false false = refl
-
 pub same_not : (xs ys : List Float) (i : ℕ) → i < length xs → i < length ys → eq (get_or xs i nan) (get_or ys i nan) ≡ false → same_bounds xs ys ≡ false
 unfolding same_bounds
 same_not [] ys i p q h = absurd (omega (arith, p))
 same_not (x ∷ xs) [] i p q h = absurd (omega (arith, q))
 same_not (x ∷ xs) (y ∷ ys) zero p q h = rw h
-same_not (x ∷ xs) (y ∷ ys) (suc i) p q h = rw (same_not xs ys i (omega (arith, p)) (omega (arith, q)) h) (and_false (eq x y))
+same_not (x ∷ xs) (y ∷ ys) (suc i) p q h = rw (same_not xs ys i (omega (arith, p)) (omega (arith, q)) h) (and_false (eq x y) false refl)
 
 -- ---- bounds_changed: of n places each, no difference below v
 pub record SameTo (es ls : List Float) (n v : ℕ) : Type 0 where

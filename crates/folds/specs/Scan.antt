@@ -11,6 +11,7 @@ use Rattle.floats.specs.Num.{0f}
 use Rattle.definition.specs.Model.{Model, from, Row}
 use Rattle.definition.specs.Work.{Work, no_term, fixed}
 use Rattle.definition.specs.Folds.{fold_step, fold_loop, fold_fixed}
+use Rattle.definition.specs.Choices.{or_left, or_right}
 use Rattle.space.specs.declared.Context.{Context}
 use Rattle.space.specs.Store.{Floats, Numbers}
 use Rattle.view.specs.Known.{Spans}
@@ -59,15 +60,6 @@ module _ {starts : List ℕ} {r : ℕ} {f : Floats} {n : Numbers} where
   scanned_some = record { none = λ e. absurd (true≢false e) }
 
 -- ---- the loop changes nothing
-or_left : (a b : Bool) → (a || b) ≡ false → a ≡ false
-or_left true b e = e
-or_left false b e = refl
-
-or_right : (a b : Bool) → (a || b) ≡ false → b ≡ false
-or_right true true e = e
-or_right true false e = refl
-or_right false b e = e
-
 pub record Still (w : Work) (x : Row) (j : ℕ) : Type 0 where
   pub coeff : eq (get_or x.terms j no_term).coeff 0f ≡ false
   pub var : fixed w (get_or x.terms j no_term).var ≡ false

@@ -8,6 +8,7 @@ use Rattle.definition.specs.Model.{Model}
 use Rattle.definition.specs.Work.{Work, no_term, has_term}
 use Rattle.definition.specs.Bounds.{fix}
 use Rattle.definition.specs.Forcing.{corner, fix_all}
+use Rattle.definition.specs.Choices.{or_true_right}
 use Rattle.space.specs.declared.Context.{Context}
 use Rattle.space.specs.Store.{Floats, Numbers}
 use Rattle.formulas.specs.Forcing.{corner_of, corner_of_lem}
@@ -39,11 +40,7 @@ has_at : (ts : List Term) (j : ℕ) → j < length ts → has_term (get_or ts j 
 unfolding has_term
 has_at [] j p = absurd (omega arith)
 has_at (t ∷ ts) zero p = rw (eq-eqb t.var t.var refl)
-has_at (t ∷ ts) (suc j) p = rw (has_at ts j (omega arith)) (or_true (eqb t.var (get_or ts j no_term).var))
-  where
-    or_true : (b : Bool) → (b || true) ≡ true
-    or_true true = refl
-    or_true false = refl
+has_at (t ∷ ts) (suc j) p = rw (has_at ts j (omega arith)) (or_true_right (eqb t.var (get_or ts j no_term).var) true refl)
 
 apart : {ts : List Term} → Distinct ts → (i j : ℕ) → i < j → j < length ts → (get_or ts j no_term).var ≢ (get_or ts i no_term).var
 apart distinct[] i j p q = absurd (omega arith)

@@ -13,6 +13,7 @@ use Rattle.definition.specs.Model.{Model, is_int}
 use Rattle.definition.specs.Work.{Work, no_term}
 use Rattle.definition.specs.Sides.{mag_l, mag_u, near_min, near_max}
 use Rattle.definition.specs.Forcing.{forced_term, all_forced, forcing_at, forces_min, forces_max}
+use Rattle.definition.specs.Choices.{and_false}
 use Rattle.space.specs.declared.Context.{Context}
 use Rattle.space.specs.Store.{Floats, Numbers}
 use Rattle.formulas.specs.declared.Limits.{Limits}
@@ -66,11 +67,7 @@ module _ (M : Model) (r : ℕ) (sliver mag : Float) (w : Work) where
   one_fails [] i q e = absurd (omega arith)
   one_fails (t ∷ ts) zero q e = forced_cons M r sliver mag w t ts ∙ ap (λ (b : Bool). b && all_forced M r sliver mag w ts) e
   one_fails (t ∷ ts) (suc i) q e = forced_cons M r sliver mag w t ts ∙ ap (λ (b : Bool). forced_term M r sliver mag w t && b) (one_fails ts i (omega arith) e)
-      ∙ and_false (forced_term M r sliver mag w t)
-    where
-      and_false : (b : Bool) → (b && false) ≡ false
-      and_false true = refl
-      and_false false = refl
+      ∙ and_false (forced_term M r sliver mag w t) false refl
 
 -- the i-th live term, and what is read of it
 abbrev live_term : List ℕ → Floats → Numbers → ℕ → ℕ → Term

@@ -9,20 +9,12 @@ use Rattle.definition.specs.Sides.{within, near_min, near_max, unreachable, redu
 use Rattle.definition.specs.Forcing.{forces_min, forces_max}
 use Rattle.definition.specs.Implied.{implied_bounds}
 use Rattle.definition.specs.Wave.{several_terms}
+use Rattle.definition.specs.Choices.{or_left, or_right}
 use Rattle.formulas.specs.declared.Limits.{Limits}
 use Rattle.formulas.specs.Bare.{bare, Has, near_min_of, near_max_of, within_of_lem}
 
 unfoldable pub may_reduce : Model → ℕ → Row → Activity → Bool
 may_reduce M r row act = near_min M r row act || near_max M r row act || within row act
-
-or_left : (a b : Bool) → (a || b) ≡ false → a ≡ false
-or_left true b e = e
-or_left false b e = refl
-
-or_right : (a b : Bool) → (a || b) ≡ false → b ≡ false
-or_right true true e = e
-or_right true false e = refl
-or_right false b e = e
 
 module _ (M : Model) (r : ℕ) (row : Row) (act : Activity) (never : may_reduce M r row act ≡ false) where
   not_near_min : near_min M r row act ≡ false

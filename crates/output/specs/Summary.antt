@@ -5,6 +5,7 @@ use borrow.Author.Tests.{eq-eqb, ne_eqb}
 use Rattle.definition.specs.declared.Counts.{Counts}
 use Rattle.definition.specs.Model.{counts}
 use Rattle.definition.specs.Emit.{same_bounds}
+use Rattle.definition.specs.Choices.{or_true_right}
 use Rattle.space.specs.declared.Context.{Context}
 use Rattle.space.specs.Store.{Floats, Numbers}
 use Rattle.view.specs.Shows.{tally_of, CountsShown}
@@ -59,17 +60,13 @@ unfoldable pub differsBy : Context → List Float → List Float → Floats → 
 differsBy s ls us f e k = not (same_bounds f.elo ls) || not (same_bounds f.ehi us) || not (eqb k 0) || not (eqb e s.rows)
 
 module _ (s : Context) (ls us : List Float) (f : Floats) (e k : ℕ) {z : Bool} (c : z ≡ (not (same_bounds f.elo ls) || not (same_bounds f.ehi us))) where
-  or_true : (a : Bool) → (a || true) ≡ true
-  or_true true = refl
-  or_true false = refl
-
   pub differs-bounds : z ≡ true → true ≡ differsBy s ls us f e k
   unfolding differsBy
   differs-bounds t = rw (← c, t)
 
   pub differs-kept : (k ≡ 0 → ⊥) → true ≡ differsBy s ls us f e k
   unfolding differsBy
-  differs-kept q = rw (← c, ne_eqb k 0 q, or_true z)
+  differs-kept q = rw (← c, ne_eqb k 0 q, or_true_right z true refl)
 
   pub differs-emitted : z ≡ false → k ≡ 0 → not (eqb e s.rows) ≡ differsBy s ls us f e k
   unfolding differsBy

@@ -11,7 +11,7 @@ use Rattle.tolerances.specs.Tol.{Term}
 use Rattle.definition.specs.declared.Rows.{Rows}
 use Rattle.definition.specs.Model.{Model, from, nnz, written, Row, Binding}
 use Rattle.definition.specs.Work.{Work, has_term}
-use Rattle.definition.specs.Choices.{and_left}
+use Rattle.definition.specs.Choices.{and_left, or_true_right}
 use Rattle.space.specs.declared.Context.{Context}
 use Rattle.space.specs.Store.{Floats, Numbers}
 use Rattle.view.specs.Call.{Call}
@@ -34,12 +34,8 @@ pub nonzero_has : (v : ℕ) (ts : List Term) → has_nonzero v ts ≡ true → h
 unfolding has_nonzero has_term
 nonzero_has v [] e = e
 nonzero_has v (t ∷ ts) e =
-    ⊎_elim (λ x. rw (and_left (eqb t.var v) (not (eq t.coeff 0f)) x)) (λ x. or_right (eqb t.var v) (nonzero_has v ts x))
+    ⊎_elim (λ x. rw (and_left (eqb t.var v) (not (eq t.coeff 0f)) x)) (λ x. or_true_right (eqb t.var v) _ (nonzero_has v ts x))
     (or_true (eqb t.var v && not (eq t.coeff 0f)) (has_nonzero v ts) e)
-  where
-    or_right : (a : Bool) {b : Bool} → b ≡ true → (a || b) ≡ true
-    or_right true e = refl
-    or_right false e = e
 
 nth_binary : {M : Model} {r : ℕ} {row : Row} {vs : List ℕ} → BinariesIn M r row vs → (k : ℕ) → k < length vs → has_term (get_or vs k 0) (row.terms ++ row.folded) ≡ true
 nth_binary binaries_in[] k l = absurd (omega arith)

@@ -10,6 +10,7 @@ use Rattle.std.proofs.lemmas.Bool.{false≢true, lt-leb, eqb-false}
 use Rattle.std.proofs.lemmas.List.Sorted.{non_decreasing_from_is_sorted}
 use borrow.Author.Tests.{lt-ltb, le-ltb, ltb-true, ltb-false}
 use Rattle.definition.specs.Refusal.{some_below}
+use Rattle.definition.specs.Choices.{or_true_left, or_true_right}
 
 -- ---- A LOOP over the numbers below n that ends at the first that passes a test
 pub record Passed (p : ℕ → Bool) (n i : ℕ) : Type 0 where
@@ -27,21 +28,13 @@ turn {p} {n} {i} h l e = record { within = omega arith; none = rw add-one (simp 
 pub end : {p : ℕ → Bool} {n i : ℕ} → Passed p n i → n ≤ i → false ≡ some_below p n
 end {p} {n} {i} h l = let e : i ≡ n = omega (arith, h.within) in sym h.none ∙ ap (some_below p) e
 
-or_left : (a b : Bool) → a ≡ true → (a || b) ≡ true
-or_left true b e = refl
-or_left false b e = absurd (false≢true e)
-
-or_right : (a b : Bool) → b ≡ true → (a || b) ≡ true
-or_right true b e = refl
-or_right false b e = e
-
 pub found : (p : ℕ → Bool) (n i : ℕ) → i < n → p i ≡ true → true ≡ some_below p n
 unfolding some_below
 found p n i h e = sym (at n h)
   where
     last : (m : ℕ) → i < suc m → (i < m → some_below p m ≡ true) → (b : Bool) → eqb i m ≡ b → some_below p (suc m) ≡ true
-    last m l f true q = or_right (some_below p m) (p m) (subst (λ (k : ℕ). p k ≡ true) (eqb-true i m q) e)
-    last m l f false q = or_left (some_below p m) (p m) (f (omega (arith, eqb-false i m q)))
+    last m l f true q = or_true_right (some_below p m) (p m) (subst (λ (k : ℕ). p k ≡ true) (eqb-true i m q) e)
+    last m l f false q = or_true_left (some_below p m) (p m) (f (omega (arith, eqb-false i m q)))
 
     at : (m : ℕ) → i < m → some_below p m ≡ true
     at zero l = absurd (omega arith)

@@ -11,6 +11,7 @@ use Rattle.definition.specs.Work.{Work}
 use Rattle.definition.specs.Folds.{gives_back, given_back, hold_rewrites}
 use Rattle.definition.specs.Rewrites.{Form, le_form, ge_form, no_form, Rewrite, keeps, coeff_only, coeff_bound, rewrites}
 use Rattle.definition.specs.Tighten.{Rewriting, set_coeff, queued, rebound_row, row_after, rewrite_step, rewrite_loop}
+use Rattle.definition.specs.Choices.{or_left, or_true_left}
 use Rattle.space.specs.declared.Context.{Context}
 use Rattle.view.specs.Call.{Call}
 use Rattle.view.specs.Inv.{RowInv, Inv}
@@ -79,10 +80,6 @@ module _ {M : Model} {s : Context} {k : ℕ} (c : Call M s) (r : ℕ) (p : r < l
         let y = rewrite_here M f nz i x in
         ended_good (row_after M f x.work x.row i t y) x.act _ (queued r x.work) (inv_queued r x.work g.inv) (after_alive M f x.work x.row i t y ∙ g.alive)
         (after_inv f x.work x.row i y (l (or_left x.broke _ e)) (rewrite_nonzero M nz f x.work x.row x.act t) g.row)))
-      where
-        or_left : (a b : Bool) → (a || b) ≡ false → a ≡ false
-        or_left true b e = e
-        or_left false b e = refl
 
 -- ---- a row that is not given back is as long as before
 module _ (M : Model) (f : Form) (nz : Float) (r : ℕ) where
@@ -98,11 +95,7 @@ module _ (M : Model) (f : Form) (nz : Float) (r : ℕ) where
 
   -- a broken loop is over
   step_broke : (i : ℕ) (x : Rewriting) → x.broke ≡ true → rewrite_step M f nz r i x ≡ x
-  step_broke i x e = step_is M f nz r i x ∙ yes _ _ (or_true x.broke _ e)
-    where
-      or_true : (a b : Bool) → a ≡ true → (a || b) ≡ true
-      or_true true b e = refl
-      or_true false b e = true_false (sym e)
+  step_broke i x e = step_is M f nz r i x ∙ yes _ _ (or_true_left x.broke _ e)
 
   pub loop_broke : (n i : ℕ) (x : Rewriting) → x.broke ≡ true → rewrite_loop M n f nz r i x ≡ x
   unfolding rewrite_loop

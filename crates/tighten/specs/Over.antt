@@ -9,7 +9,7 @@ use Rattle.floats.specs.Num.{choose, ◌⊕◌, ◌⊖◌}
 use Rattle.tolerances.specs.Tol.{Term}
 use Rattle.definition.specs.declared.Activity.{Activity}
 use Rattle.definition.specs.Model.{Model, Row, Binding, with_touched, with_range, with_binding, rewrote}
-use Rattle.definition.specs.Work.{Work, with_marks, with_row, with_counts, fixed, no_row, no_term}
+use Rattle.definition.specs.Work.{Work, with_marks, with_row, with_counts, fixed, no_row, no_term, with_rows}
 use Rattle.definition.specs.Folds.{fold_term, fold_step, fold_loop, gives_back, given_back}
 use Rattle.definition.specs.Rewrites.{Form, le_form, ge_form, no_form, Rewrite, keeps, coeff_only, coeff_bound, rewrites, act_after}
 use Rattle.definition.specs.Bindings.{rewrite_binding, growth}
@@ -162,18 +162,7 @@ closed r s = (shown r s, s.changed)
 
 -- to store the row that is there changes nothing
 pub stored_is : (r : ℕ) (w : Work) → with_row r (row_of w r) w ≡ w
-stored_is r w =
-    ap (λ (l : List Row). record {
-      wlo = w.wlo;
-      whi = w.whi;
-      elo = w.elo;
-      ehi = w.ehi;
-      rows = l;
-      dirty = w.dirty;
-      coeff_dirty = w.coeff_dirty;
-      queue = w.queue;
-      counts = w.counts;
-    }) (set-get_or w.rows r no_row)
+stored_is r w = ap (λ (l : List Row). with_rows l w) (set-get_or w.rows r no_row)
 
 pub shown_over : (r : ℕ) (z : Row) (s : Rewriting) → shown r (over r z s) ≡ shown r s
 shown_over r z s = row_again r z s.row s.work

@@ -9,7 +9,7 @@ use Rattle.definition.specs.Work.{Work}
 use Rattle.definition.specs.Activities.{activity}
 use Rattle.definition.specs.Rewrites.{Form, le_form, ge_form, no_form, form_of, vacuous_room}
 use Rattle.definition.specs.Tighten.{Rewriting, eligible, rewrite_loop, spared, tighten_form, tighten_by, tighten_row}
-use Rattle.definition.specs.Choices.{and_left}
+use Rattle.definition.specs.Choices.{and_left, and_false}
 use Rattle.formulas.specs.declared.Form as forms
 use Rattle.formulas.specs.declared.Form.TheVariants.{Le, Ge}
 use Rattle.formulas.specs.declared.Limits.{Limits}
@@ -150,10 +150,6 @@ module _ (M : Model) (r : ℕ) (w : Work) where
   row_left : (row_of w r).alive && get_or w.coeff_dirty r false ≡ false → tighten_row M r w false ≡ (w, false)
   unfolding tighten_row
   row_left e = no _ _ e
-
-and_false : (a b : Bool) → b ≡ false → a && b ≡ false
-and_false true b e = e
-and_false false b e = refl
 
 -- the row's two marks, as the slices have them
 module _ {M : Model} {s : Context} {f : Floats} {n : Numbers} {o : List ℕ} {k : ℕ} {w : Work} (r : ℕ) (p : r < s.rows) (c : Call M s) (h : Shows M f n o w) (i : Inv M k w) where

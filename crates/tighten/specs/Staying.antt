@@ -2,7 +2,7 @@
 use Rattle.std.specs.Prelude.{ℕ, ◌<◌, ◌≡◌, true, List}
 use Rattle.std.proofs.Common.{arith, ap, sym, ◌∙◌, subst, set-set}
 use Rattle.definition.specs.Model.{Model, Row}
-use Rattle.definition.specs.Work.{Work, with_row}
+use Rattle.definition.specs.Work.{Work, with_row, with_rows}
 use Rattle.space.specs.declared.Context.{Context}
 use Rattle.space.specs.Store.{Floats, Numbers}
 use Rattle.view.specs.Call.{Call}
@@ -20,18 +20,7 @@ pub record StaysAlive (P : Model → Type 0) (s : Context) (f : Floats) (n : Num
 
 -- the row that was stored last is the row
 pub row_again : (r : ℕ) (x y : Row) (w : Work) → with_row r y (with_row r x w) ≡ with_row r y w
-row_again r x y w =
-    ap (λ (l : List Row). record {
-      wlo = w.wlo;
-      whi = w.whi;
-      elo = w.elo;
-      ehi = w.ehi;
-      rows = l;
-      dirty = w.dirty;
-      coeff_dirty = w.coeff_dirty;
-      queue = w.queue;
-      counts = w.counts;
-    }) (set-set w.rows r x y)
+row_again r x y w = ap (λ (l : List Row). with_rows l w) (set-set w.rows r x y)
 
 module _ {P : Model → Type 0} {s : Context} {f f₁ : Floats} {n n₁ : Numbers} {r : ℕ} {F : Model → Work → Row} (p : r < s.rows)
     (A : Acts P s f n f₁ n₁ (λ M w. with_row r (F M w) w)) (S : StaysAlive P s f n r F) where
