@@ -1,16 +1,13 @@
 -- Fates written to the slices, row by row: they are those of every state that the slices show, and that state stays shown.
-use Rattle.std.specs.Prelude.{ℕ, ◌+◌, ◌-◌, ◌≤◌, ◌<◌, ◌≡◌, ◌≢◌, Bool, true, false, length, get_or, unwrap_or, Float}
+use Rattle.std.specs.Prelude.{ℕ, ◌+◌, ◌<◌, ◌≡◌, ◌≢◌, Bool, true, false, length, get_or, Float}
 use Rattle.std.proofs.Common.{arith, ◌∙◌, subst, ⊎_elim}
 use Rattle.std.proofs.Math.Path.{refl, ap, sym}
 use mathlib.Core.List.{List}
 use Rattle.std.proofs.Math.Seq.{get_or-set_same, get_or-set_other}
 use Rattle.std.specs.Float.Ieee.{nan}
 use Rattle.floats.specs.Num.{is_finite}
-use Rattle.std.specs.Prelude as std
-use Rattle.tolerances.specs.Tol.{at, trivial_verdict, says_true}
-use Rattle.tolerances.specs.Answers.{option_of, says_unwrap}
-use Rattle.definition.specs.declared.Rows.{Rows}
-use Rattle.definition.specs.Model.{Model, from, upto, nnz, op_of, rhs_of}
+use Rattle.tolerances.specs.Tol.{at}
+use Rattle.definition.specs.Model.{Model}
 use Rattle.definition.specs.Work.{Work, trivial}
 use Rattle.definition.specs.Bindings.{rewritten_bound}
 use Rattle.space.specs.declared.Context.{Context}
@@ -19,7 +16,6 @@ use Rattle.view.specs.Call.{Call}
 use Rattle.view.specs.Shows.{is_one, Shows}
 use Rattle.view.specs.Inv.{Inv}
 use Rattle.view.specs.Acts.{Ready, Reads}
-use Rattle.view.specs.Known.{Written}
 use Rattle.view.specs.Lists.{yes, no, one_is, one_not}
 use Rattle.view.specs.Rows.{same?}
 use Rattle.readers.specs.Reading.{row_of}

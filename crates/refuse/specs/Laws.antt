@@ -6,7 +6,7 @@ use Rattle.std.specs.List.{list_any, zip, IsAllAdjacentAnswer}
 use Rattle.std.specs.List.Sorted.{IsNonDecreasing}
 use Rattle.std.proofs.Common.{add-one, arith, sym, ap, subst, ◌∙◌, true≢false, le-leb, eqb-true}
 use Rattle.std.proofs.Math.Bool.{or_assoc}
-use Rattle.std.proofs.lemmas.Bool.{false≢true, lt-leb, eqb-false}
+use Rattle.std.proofs.lemmas.Bool.{lt-leb, eqb-false}
 use Rattle.std.proofs.lemmas.List.Sorted.{non_decreasing_from_is_sorted}
 use borrow.Author.Tests.{lt-ltb, le-ltb, ltb-true, ltb-false}
 use Rattle.definition.specs.Refusal.{some_below}
