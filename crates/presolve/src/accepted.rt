@@ -17,15 +17,15 @@ pub(crate) fn accepted(input: Input, results: &mut Results, space: &mut Space) -
     ensures same_space { SameSpace space.old space.new }
     ensures promise { Promise (input_model input.entry) (held results.old) (working_of space.old) (Ok result) (held results.new) (working_of space.new) }
 {
-    let s = Context {
+    let cx = Context {
         vars: input.obj.len(),
         rows: input.rows.rhs.len(),
         terms: input.rows.index.len(),
         mip: formulas::is_mip(input.mode),
         feas: input.feas,
     };
-    match reduce::reduce(input, space.adjacency, space.floats, space.numbers, s) {
-        Err(Infeasible) => stopped(space, s),
-        Ok(()) => finished(input, s, results, space),
+    match reduce::reduce(input, space.adjacency, space.floats, space.numbers, cx) {
+        Err(Infeasible) => stopped(space, cx),
+        Ok(()) => finished(input, cx, results, space),
     }
 }
