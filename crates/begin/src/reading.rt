@@ -76,7 +76,7 @@ fn read_row(
     }
 }
 
-// = read_from. Like settle's `settle_rows` by chance: each is a loop over the rows, of another step.
+// = read_from. Like reduce's `settle_rows` by chance: each is a loop over the rows, of another step.
 pub(crate) fn read_rows(
     rows: Rows,
     floats: &mut [f64],

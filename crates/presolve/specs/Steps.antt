@@ -1,4 +1,4 @@
--- The call step by step: an accepted call's shape and room, and the promise from what the steps promise.
+-- The call step by step: an accepted call's context and room, and the promise from what the steps promise.
 use Rattle.std.specs.Prelude.{ℕ, ◌+◌, ◌≤◌, ◌≡◌, Bool, List, length, replicate, Float, ⊤, Result, Ok, Err}
 use Rattle.std.proofs.Common.{arith, ◌∙◌, subst, Bor}
 use Rattle.std.proofs.Math.Path.{refl, ap, sym}
