@@ -22,7 +22,8 @@ ROOT = os.path.normpath(os.path.join(os.path.dirname(os.path.abspath(__file__)),
 DAYS = ["day-%02d" % k for k in range(1, 13)]
 OUTSIDE = ["outside/" + name for name in ("largest-side", "last-sliver", "subnormal", "fold-overflows", "product-overflows")]
 BY_ONE = ["by-one/no-plan", "by-one/one-plan"]
-TEXTS = DAYS + OUTSIDE + BY_ONE
+DUAL = ["dual/" + name for name in ("both-fall", "neither-falls", "rise-then-fall", "either-way")]
+TEXTS = DAYS + OUTSIDE + BY_ONE + DUAL
 WEEKS = ["two-boxes", "one-box"]
 PREFIXES = 7000  # every prefix is run of files up to this size, as in crates/run_examples/src/main.rt
 

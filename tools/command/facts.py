@@ -5,16 +5,21 @@ from model import float_of, is_finite, show
 BOUND, COEFFICIENT, SIDE, TERMS, TOLERANCE = 1048576, 32768, 1099511627776, 256, 0.01
 
 
+def is_whole(bits):
+    return is_finite(bits) and float_of(bits) == int(float_of(bits))
+
+
 def whole_within(bits, most):
-    return is_finite(bits) and float_of(bits) == int(float_of(bits)) and abs(float_of(bits)) <= most
+    return is_whole(bits) and abs(float_of(bits)) <= most
 
 
-KINDS = ["domain", "bound", "coefficient", "side", "terms", "tolerance", "mode"]
+KINDS = ["domain", "bound", "coefficient", "side", "terms", "tolerance", "mode", "objective"]
 
 
 def farm_fault(m):
     """Which of 01's conditions of a farm model fails first, as (kind, place), or None: conditions in 01's order, each over the
-    whole model. The place is a variable, a term in the list of all rows' terms, a row; 0 feasibility and 1 int_tol; 0."""
+    whole model, and after them the objective, which is no part of a farm model. The place is a variable, a term in the list of
+    all rows' terms, a row; 0 feasibility and 1 int_tol; 0; a variable."""
     coeffs = [c for r in m.rows for _, c in r.terms]
     checks = [
         [v.domain == 1 for v in m.variables],
@@ -24,6 +29,7 @@ def farm_fault(m):
         [len(r.terms) > TERMS for r in m.rows],
         [not 0.0 <= float_of(bits) <= TOLERANCE for bits in (m.feasibility, m.int_tol)],
         [m.mode == 0],
+        [not is_whole(v.objective) for v in m.variables],
     ]
     for kind, fails in zip(KINDS, checks):
         if True in fails:
@@ -62,33 +68,44 @@ def fault_words(m, kind, place):
     if kind == "tolerance":
         name = ("feasibility", "int_tol")[place]
         return "%s is %s, outside 0 to 0.01" % (name, show(getattr(m, name)))
+    if kind == "objective":
+        return "the objective of variable %d (%s) is %s, not a whole number" % (place, m.variables[place].name, show(m.variables[place].objective))
     return "the mode is lp"
 
 
 class Promise:
-    """Whether the theorem points-kept speaks of this answer, and the sentence that follows."""
+    """Which of the theorems points_kept and best_kept speaks of this answer, and the sentence that follows."""
 
     def __init__(self, m, a, program, proved):
         told = program.facts(m)
         fault = farm_fault(m) if told is None else told_fault(told)
         self.tested_by = "tools/command/facts.py, which no proof covers" if told is None else "presolve_facts"
-        self.fault = (fault[0], fault_words(m, *fault)) if fault else None
+        words = (fault[0], fault_words(m, *fault)) if fault else None
+        # an objective that is not whole leaves the model a farm model
+        self.fault, self.objective_fault = (None, words) if words and words[0] == "objective" else (words, None)
         self.dual, self.rewritten = m.mode == 2, a.counts[3]
         if self.fault:
             self.because = self.fault[1]
-        elif self.dual:
-            self.because = "dual fixing is on (mode mip-dual), which drops plans on purpose"
         elif self.rewritten:
             self.because = "the fourth count is %d: coefficients were rewritten" % self.rewritten
         else:
             self.because = None
         by = "proved" if proved else "by a program that is not proved on this machine: ./presolve --prove proves it"
+        self.says, self.sentence = self.promised(a.kind == "infeasible", by)
+
+    def promised(self, infeasible, by):
+        """What is promised, for a machine and in words."""
         if self.because:
-            self.sentence = "no promise is made for this model, because %s" % self.because
-        elif a.kind == "infeasible":
-            self.sentence = "infeasible: no plan exists (%s)" % by
-        else:
-            self.sentence = "exactly the input's plans (%s)" % by
+            return "nothing", "no promise is made for this model, because %s" % self.because
+        if infeasible:
+            return "no plan", "infeasible: no plan exists (%s)" % by
+        if not self.dual:
+            return "same plans", "exactly the input's plans (%s)" % by
+        if self.objective_fault:
+            return "plan or none", ("a plan exactly when the input has one, and every plan left is one of the input's (%s); not that a cheapest one "
+                                    "stays, because %s" % (by, self.objective_fault[1]))
+        return "cheapest plan", ("if the input has a plan, a cheapest one stays, and every plan left is one of the input's (%s); dual fixing may drop "
+                                 "others on purpose" % by)
 
     @property
     def applies(self):

@@ -40,6 +40,8 @@ def lines(call, m, a, promise):
     out += ["  farm model              %s" % ("no: " + promise.fault[1] if promise.fault else "yes")]
     out += ["                          tested by %s" % promise.tested_by]
     out += ["  dual fixing             %s (mode %s)" % ("on" if promise.dual else "off", model.MODES[m.mode])]
+    if promise.dual and not promise.fault:
+        out += ["  objective whole         %s" % ("no: " + promise.objective_fault[1] if promise.objective_fault else "yes")]
     out += ["  coefficients rewritten  %d" % promise.rewritten]
     return out + ["  so: %s" % promise.sentence]
 
@@ -72,8 +74,10 @@ def as_json(call, m, a, promise):
         "sizes": {"before": sizes.before, "after": sizes.after},
         "promise": {
             "applies": promise.applies,
+            "says": promise.says,
             "farm_fault": list(promise.fault) if promise.fault else None,
             "farm_tested_by": promise.tested_by,
+            "objective_fault": list(promise.objective_fault) if promise.objective_fault else None,
             "mode": m.mode,
             "coefficients_rewritten": promise.rewritten,
             "program_proved": call.proved,

@@ -106,7 +106,7 @@ def lines(call, m, part, found, a, promise, calls):
         v = m.variables[k]
         out.append("#   %s %s %s" % (v.name, "<=" if side else ">=", model.shown(v.upper if side else v.lower)))
     wide = "+-1,048,576, the widest that the promise covers" if part.farm else "open"
-    out.append("# Other bounds are widened: of a boolean to 0 to 1, else to %s; objectives are left out." % wide)
+    out.append("# Other bounds are widened: of a boolean to 0 to 1, else to %s%s." % (wide, "" if m.mode == 2 else "; objectives are left out"))
     out.append("# Found by asking presolve %d times. Of the text below, as it stands, it says: infeasible, counts %s." % (
         calls, " ".join(map(str, a.counts))))
     out.append("# %s." % promise.sentence)

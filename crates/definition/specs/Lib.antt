@@ -4,6 +4,7 @@
 -- stands in the crates rows_kept and points_kept, and where a sum overflows a reason can fail (docs/DIFFERENCES.md).
 pub mod Params
 pub mod Model
+pub mod Of
 pub mod Work
 pub mod Activities
 pub mod Marks

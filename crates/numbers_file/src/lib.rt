@@ -1,5 +1,6 @@
 // A model file's bytes to the line that says whether its model is 01's farm model, for which the
-// promise about points is made. specs/Whole says what that line is.
+// promise about points is made, and its objective whole, which the one about the least objective asks
+// besides. specs/Whole says what that line is.
 #![tactic(auto)]
 
 ghost use Rattle.std.specs.Prelude.{◌≡◌, length, take};

@@ -22,7 +22,7 @@ use Rattle.best_kept.proofs.BestKept.{best_kept}
 use Rattle.points_kept.specs.ActivityEverywhere.{WholeBounds}
 use Rattle.points_kept.proofs.ActivityEverywhere.{answer_whole}
 use Rattle.definition.specs.Accepted.{Shaped, accepted_shaped}
-use Rattle.refuse.specs.Of.{model_of}
+use Rattle.definition.specs.Of.{model_of}
 use Rattle.view.specs.Lists.{length_map}
 use Rattle.row_terms.specs.declared.Place.{Place}
 use Rattle.row_terms.specs.RowMark.{marked}

@@ -22,7 +22,8 @@ use Rattle.view.specs.Acts.{Ready}
 use Rattle.folds.specs.Written.{Described}
 use Rattle.refuse.specs.declared.Refusal.{Refusal}
 use Rattle.refuse.specs.Number.{number_of}
-use Rattle.refuse.specs.Of.{input_model, refused_is}
+use Rattle.definition.specs.Of.{input_model}
+use Rattle.refuse.specs.Of.{refused_is}
 use Rattle.refuse.specs.Rows.{lengths_agree}
 use Rattle.refuse.specs.Accepted.{accepted, Scalars, call_of, LentRoom, room_of}
 use Rattle.tally.specs.Theorem.{CountsFit, Fits, counts_fit, fits_infeasible, fits_done}

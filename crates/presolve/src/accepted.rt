@@ -1,6 +1,6 @@
 // A call that the table passes.
 ghost use Rattle.std.specs.Prelude.{Ok};
-ghost use Rattle.refuse.specs.Of.{input_model};
+ghost use Rattle.definition.specs.Of.{input_model};
 ghost use Rattle.output.specs.Results.{held, SameSlices};
 ghost use Rattle.presolve.specs.Promise.{working_of, SameSpace, Promise};
 ghost use Rattle.presolve.specs.Steps.{NotRefused};

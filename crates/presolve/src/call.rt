@@ -1,6 +1,7 @@
 // A call, by the table of refusals first.
 ghost use Rattle.std.specs.Prelude.{◌≡◌, ℕ};
-ghost use Rattle.refuse.specs.Of.{input_model, lent_of};
+ghost use Rattle.definition.specs.Of.{input_model};
+ghost use Rattle.refuse.specs.Of.{lent_of};
 ghost use Rattle.output.specs.Results.{held, SameSlices};
 ghost use Rattle.presolve.specs.Promise.{working_of, SameSpace, lengths, answer_as, Promise};
 ghost use Rattle.presolve.specs.Second.{second_as, second};

@@ -1,7 +1,7 @@
 // presolve for callers in C and Rust: include/presolve.h declares it.
 #![tactic(auto)]
 
-ghost use Rattle.refuse.specs.Of.{model_of};
+ghost use Rattle.definition.specs.Of.{model_of};
 ghost use Rattle.output.specs.Results.{results};
 ghost use Rattle.presolve.specs.Promise.{working};
 ghost use Rattle.std.specs.Prelude.{◌≡◌};

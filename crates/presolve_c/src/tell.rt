@@ -2,7 +2,8 @@
 ghost use Rattle.std.specs.Prelude.{◌≡◌, ◌≤◌, length};
 ghost use Rattle.std.proofs.Math.Option.{some};
 ghost use Rattle.definition.specs.Refusal.{refusal};
-ghost use Rattle.refuse.specs.Of.{input_model, lent_of};
+ghost use Rattle.definition.specs.Of.{input_model};
+ghost use Rattle.refuse.specs.Of.{lent_of};
 ghost use Rattle.emit.specs.Filling.{over};
 ghost use Rattle.presolve.specs.Promise.{answer_is};
 ghost use Rattle.presolve_c.specs.Face.{or_else, flag_number, five_of, nine_of, Told};

@@ -1,6 +1,7 @@
 // Reads one model file on standard input and prints whether its model is 01's farm model, for which the
-// promise about points is made: `numbers whole`, or `numbers`, the condition that fails and its place. A program needs
-// its own `main`; what it shares with presolve_main is `answer_input`.
+// promise about points is made, with a whole objective: `numbers whole`, or `numbers`, the condition that fails and its
+// place. 8 is the objective, asked last: a model that is told to fail there is a farm model. A program needs its own
+// `main`; what it shares with presolve_main is `answer_input`.
 #![tactic(auto)]
 
 use numbers_file::Numbers;

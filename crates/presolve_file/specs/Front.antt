@@ -5,7 +5,7 @@ use Rattle.std.proofs.Math.Path.{◌≡◌, refl, ap}
 use Rattle.std.proofs.Math.Seq.{take-append_seam}
 use Rattle.floats.specs.Num.{choose}
 use Rattle.definition.specs.Model.{Model}
-use Rattle.refuse.specs.Of.{model_of}
+use Rattle.definition.specs.Of.{model_of}
 use Rattle.model_file.specs.declared.Header.{Header}
 use Rattle.model_file.specs.Format.{Lists, Decoded, refusal, file, decode}
 use Rattle.model_file.specs.Reading.{FileRead, Slices, over, filled, room, room_vars, room_rows, header_of, Out, out, into, read_into}

@@ -6,7 +6,7 @@ use Rattle.definition.specs.declared.Counts.{Counts}
 use Rattle.definition.specs.Model.{Model, Emit, Reduced, Answer, infeasible, done}
 use Rattle.definition.specs.Presolve.{presolve}
 use Rattle.definition.specs.Refusal as call
-use Rattle.refuse.specs.Of.{model_of}
+use Rattle.definition.specs.Of.{model_of}
 use Rattle.row_terms.specs.RowMark.{mark}
 use Rattle.emit.specs.Terms.{vars_of, coeffs_of}
 use Rattle.model_file.specs.Format.{Lists, Decoded, refusal, file, decode}

@@ -1,6 +1,6 @@
 // An answer of presolve as text.
 ghost use Rattle.std.specs.Prelude.{◌≡◌, length};
-ghost use Rattle.refuse.specs.Of.{input_model};
+ghost use Rattle.definition.specs.Of.{input_model};
 ghost use Rattle.output.specs.Results.{held};
 ghost use Rattle.print_result.specs.Printing.{printed, outcome};
 ghost use Rattle.presolve_file.specs.Whole.{kind_of, infeasible_text, model_text};

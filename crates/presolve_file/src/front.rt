@@ -1,6 +1,6 @@
 // The model that was read: it stands at the front of the slices.
 ghost use Rattle.std.specs.Prelude.{◌≡◌};
-ghost use Rattle.refuse.specs.Of.{input_model};
+ghost use Rattle.definition.specs.Of.{input_model};
 ghost use Rattle.model_file.specs.Reading.{lent};
 ghost use Rattle.presolve_file.specs.Front.{SlicesHold, front_model};
 

@@ -2,7 +2,7 @@
 ghost use Rattle.std.specs.Prelude.{◌≡◌, List, ℕ, length, take, OnOk};
 ghost use Rattle.std.specs.Io.KnownBytes.{Appends};
 ghost use Rattle.definition.specs.Model.{Model};
-ghost use Rattle.refuse.specs.Of.{input_model};
+ghost use Rattle.definition.specs.Of.{input_model};
 ghost use Rattle.model_file.specs.Format.{decode};
 ghost use Rattle.print_result.specs.Printing.{printed, outcome};
 ghost use Rattle.presolve_file.specs.Whole.{told};

@@ -69,17 +69,13 @@ validate_line r = ascii "validate" ++ (number r ++ newline)
 unfoldable pub refused_line : ℕ → List ℕ
 refused_line n = ascii "refused" ++ (number n ++ newline)
 
--- whether a model is 01's farm model: the number of the condition that fails and its place, 0 where none does
+-- whether a model is 01's farm model with a whole objective, or the number of the condition that fails and its place
 unfoldable pub whole_line : List ℕ
 whole_line = ascii "numbers whole\n"
 
 unfoldable pub off_line : ℕ → ℕ → List ℕ
 off_line k i = ascii "numbers" ++ (number k ++ (number i ++ newline))
 
-unfoldable pub numbers_line : ℕ → ℕ → List ℕ
-numbers_line k i = choose (eqb k 0) whole_line (off_line k i)
-
--- the same of what the code is handed
 unfoldable pub numbers_text : Option Off → List ℕ
 numbers_text None = whole_line
 numbers_text (Some o) = off_line o.number o.place

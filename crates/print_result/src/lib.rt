@@ -159,7 +159,7 @@ pub fn print_refusal(number: u8, out: &mut [u8]) -> Option<usize>
     print(&Refused(number), out)
 }
 
-// Prints whether a model is 01's farm model: the condition that fails, or none.
+// Prints whether a model is 01's farm model with a whole objective: the condition that fails, or none.
 pub fn print_numbers(off: Option<Off>, out: &mut [u8]) -> Option<usize>
     ensures { outcome result out.new ≡ printed (numbers_text off) out.old }
 {

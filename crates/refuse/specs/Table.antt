@@ -7,7 +7,7 @@ use Rattle.definition.specs.Model.{Model, from, upto, nnz, op_of, rhs_of}
 use Rattle.definition.specs.Refusal.{Lent, lengths_disagree, too_large, start_falls, starts_wrong, index_large, index_falls, row_unordered, indices_wrong}
 use Rattle.definition.specs.Refusal.{domain_wrong, cmp_wrong, codes_wrong, bound_wrong, bounds_wrong, obj_wrong, coeff_wrong, numbers_wrong, rhs_wrong}
 use Rattle.definition.specs.Refusal.{rhses_wrong, tolerance_wrong, tolerances_wrong, too_short, table, earliest, refusal}
-use Rattle.refuse.specs.Of.{model_of}
+use Rattle.definition.specs.Of.{model_of}
 
 -- r is the number of the earliest row that applies
 pub record Earliest (cs : List (ℕ × Bool)) (r : Option ℕ) : Type 0 where

@@ -8,7 +8,8 @@ mod rows;
 ghost use Rattle.std.specs.Prelude.{◌≡◌};
 ghost use Rattle.definition.specs.Refusal.{refusal};
 ghost use Rattle.refuse.specs.Number.{number_of};
-ghost use Rattle.refuse.specs.Of.{input_model, lent_of, refused_is};
+ghost use Rattle.definition.specs.Of.{input_model};
+ghost use Rattle.refuse.specs.Of.{lent_of, refused_is};
 
 use definition::Input;
 

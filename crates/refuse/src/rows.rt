@@ -5,7 +5,8 @@
 ghost use Rattle.std.specs.Prelude.{◌≡◌, false, ◌+◌, ◌≤◌, length};
 ghost use Rattle.definition.specs.Refusal as definition;
 ghost use Rattle.definition.specs.Refusal.{some_below, row_unordered};
-ghost use Rattle.refuse.specs.Of.{input_model, lent_of};
+ghost use Rattle.definition.specs.Of.{input_model};
+ghost use Rattle.refuse.specs.Of.{lent_of};
 
 use crate::{Lent, MAX_ROWS, MAX_TERMS, MAX_VARS, lists};
 use definition::Input;

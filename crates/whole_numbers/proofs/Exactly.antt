@@ -188,11 +188,9 @@ module _ (M : Model) where
 
   -- ---- and the objective, after them
   pub whole_objective : All Holds (objective M ∷ []) → WholeObjective M
-  unfolding objective
   whole_objective (each o no_one) = λ v h. objective_in M.obj v (o v h)
 
   pub objective_holds : WholeObjective M → All Holds (objective M ∷ [])
-  unfolding objective
   objective_holds w = each (λ v h. objective_out M.obj v (w v h)) no_one
 
   pub told_is : told M ≡ or_else (fault M) (earliest_fault (objective M ∷ []))
@@ -214,7 +212,6 @@ module _ (M : Model) where
       (each (omega arith) (each (omega arith) (each (omega arith) (each (omega arith) (each (omega arith) (each (omega arith) (each (omega arith) no_one))))))) f e
 
   pub eight : (f : ℕ × ℕ) → earliest_fault (objective M ∷ []) ≡ some f → f.0 ≡ 8
-  unfolding objective
   eight f e = numbered (λ (n : ℕ). n ≡ 8) (objective M ∷ []) (each refl no_one) f e
 
   pub told_fault : (k i : ℕ) → ((told M ≡ some (k, i)) × (k ≤ 7)) ↔ (fault M ≡ some (k, i))

@@ -1,5 +1,5 @@
 -- What each branch of the code answers is the definition's test.
-use Rattle.std.specs.Prelude.{ℕ, suc, ◌+◌, ◌-◌, ◌≤◌, ◌<◌, ◌≡◌, Bool, true, false, ◌&&◌, ◌||◌, List, T, eqb, pos, length, Float}
+use Rattle.std.specs.Prelude.{ℕ, suc, ◌+◌, ◌-◌, ◌≤◌, ◌≡◌, Bool, true, false, ◌&&◌, ◌||◌, List, T, eqb, pos, length, Float}
 use Rattle.std.proofs.lemmas.Bool.{false≢true}
 use Rattle.std.proofs.Common.{arith, ◌∙◌, lit≤, ne_eqb, le-ltb}
 use Rattle.std.proofs.Math.Path.{refl, sym, ap, subst}
@@ -7,35 +7,16 @@ use Rattle.std.proofs.Math.Bool.{not}
 use Rattle.std.proofs.Math.Dec.{ltb}
 use Rattle.std.proofs.Math.ListN.{get_or, get_or-eq_default}
 use Rattle.std.specs.Float.{nan, binary64}
-use Rattle.std.specs.Float.Ieee.{fits, le, div, of_bits, of_int, round}
-use Rattle.floats.specs.Num.{choose, 0f, abs}
+use Rattle.std.specs.Float.Ieee.{fits, le, of_bits, of_int, round}
+use Rattle.floats.specs.Num.{0f, abs}
 use Rattle.floats.specs.Points.{is_whole, Is}
 use Rattle.floats.proofs.Points.{of_is}
 use Rattle.tolerances.specs.Tol.{at}
-use Rattle.definition.specs.Choices.{chosen, left}
 use Rattle.points_kept.specs.Statements.{HUNDREDTH}
-use Rattle.whole_numbers.specs.Fault.{first, whole_within, tolerable, domain_off, bounds_off, number_off, row_long, tolerance_off, mode_off}
+use Rattle.whole_numbers.specs.Fault.{whole_within, tolerable, domain_off, bounds_off, number_off, row_long, tolerance_off, mode_off, objective_off}
 use Rattle.whole_numbers.specs.Floats.{within_is, beyond, beyond_at}
 
--- ---- what lies outside a list
-pub float_past : (xs : List Float) (i : ℕ) → length xs ≤ i → div binary64 (of_bits binary64 0) (of_bits binary64 0) ≡ at xs i
-float_past xs i h = nothing ∙ sym (get_or-eq_default xs nan h)
-  where
-    nothing : div binary64 (of_bits binary64 0) (of_bits binary64 0) ≡ nan
-    nothing = unfold div of_bits in refl
-
-pub start_past : (ss : List ℕ) (r : ℕ) → length ss ≤ r → 0 ≡ get_or ss r 0
-start_past ss r h = sym (get_or-eq_default ss 0 h)
-
 -- ---- domains
-pub integer : (ds : List ℕ) (v : ℕ) → get_or ds v 0 ≡ 0 → false ≡ domain_off ds v
-unfolding domain_off
-integer ds v e = sym (ap (λ (d : ℕ). not (eqb d 0 || eqb d 2)) e)
-
-pub not_integer : (ds : List ℕ) (v : ℕ) → (get_or ds v 0 ≡ 0 → ⊥) → not (eqb (get_or ds v 0) 2) ≡ domain_off ds v
-unfolding domain_off
-not_integer ds v h = sym (ap (λ (b : Bool). not (b || eqb (get_or ds v 0) 2)) (ne_eqb (get_or ds v 0) 0 h))
-
 pub domain_by : (ds : List ℕ) (v : ℕ) {d : ℕ} → d ≡ get_or ds v 0 → (d ≡ 0 → ⊥) → not (eqb d 2) ≡ domain_off ds v
 unfolding domain_off
 domain_by ds v {d} e h = ap (λ (b : Bool). not (b || eqb d 2)) (sym (ne_eqb d 0 h)) ∙ ap (λ (k : ℕ). not (eqb k 0 || eqb k 2)) e
@@ -76,31 +57,7 @@ rhs_is = let e : of_int binary64 (pos 1099511627776) ≡ RHS = unfold of_bits of
 bound_test : (x : Float) → is_whole x && le (abs x) BOUND ≡ whole_within 1048576 x
 bound_test x = within_is x BOUND 1048576 bound_is
 
-module _ (ls us : List Float) (v : ℕ) (x y : Float) (a : x ≡ at ls v) where
-  lower_test : {b : Bool} → b ≡ is_whole x && le (abs x) BOUND → b ≡ whole_within 1048576 (at ls v)
-  lower_test e = e ∙ bound_test x ∙ ap (whole_within 1048576) a
-
-  pub upper_next : {p q : Bool} → p ≡ is_whole x && le (abs x) BOUND → p ≡ true → y ≡ at us v → q ≡ is_whole y && le (abs y) BOUND → not q ≡ bounds_off ls us v
-  unfolding bounds_off
-  upper_next {p} {q} e t b f =
-      let l = sym (lower_test e) ∙ t in
-      let u = f ∙ bound_test y ∙ ap (whole_within 1048576) b in
-      ap not u ∙ sym (ap (λ (c : Bool). not (c && whole_within 1048576 (at us v))) l)
-
-  pub lower_fails : {p : Bool} → p ≡ is_whole x && le (abs x) BOUND → p ≡ false → true ≡ bounds_off ls us v
-  unfolding bounds_off
-  lower_fails e t = sym (ap (λ (c : Bool). not (c && whole_within 1048576 (at us v))) (sym (lower_test e) ∙ t))
-
 -- ---- a number against a limit
-module _ (limit : Float) (xs : List Float) (i : ℕ) (x : Float) (a : x ≡ at xs i) where
-  pub number_ok : {p : Bool} → p ≡ is_whole x && le (abs x) limit → p ≡ true → beyond limit xs i ≡ false
-  unfolding beyond
-  number_ok e t = ap not (ap (λ (z : Float). is_whole z && le (abs z) limit) (sym a) ∙ sym e ∙ t)
-
-  pub number_fails : {p : Bool} → p ≡ is_whole x && le (abs x) limit → p ≡ false → beyond limit xs i ≡ true
-  unfolding beyond
-  number_fails e t = ap not (ap (λ (z : Float). is_whole z && le (abs z) limit) (sym a) ∙ sym e ∙ t)
-
 pub number_by : (limit : Float) (xs : List Float) (i : ℕ) {x : Float} {b : Bool} → x ≡ at xs i → b ≡ is_whole x && le (abs x) limit → not b ≡ beyond limit xs i
 unfolding beyond
 number_by limit xs i a e = ap not (e ∙ ap (λ (z : Float). is_whole z && le (abs z) limit) a)
@@ -140,10 +97,6 @@ module _ (ss : List ℕ) (r : ℕ) where
   unfolding row_long
   row_last h = let e = get_or-eq_default ss 0 {n = r + 1} h in sym (le-ltb 256 (get_or ss (r + 1) 0 - get_or ss r 0) (omega (arith, e)))
 
-  pub row_falls : {u : ℕ} → u ≡ get_or ss (r + 1) 0 → u < get_or ss r 0 → false ≡ row_long ss r
-  unfolding row_long
-  row_falls e h = sym (le-ltb 256 (get_or ss (r + 1) 0 - get_or ss r 0) (omega (arith, e)))
-
   pub row_length : {u n : ℕ} → u ≡ get_or ss (r + 1) 0 → n ≡ u - get_or ss r 0 → ltb 256 n ≡ row_long ss r
   unfolding row_long
   row_length e f = ap (ltb 256) (f ∙ ap (λ (n : ℕ). n - get_or ss r 0) e)
@@ -173,23 +126,6 @@ module _ (feas int_tol : Float) {i : ℕ} {b : Bool} where
   unfolding tolerance_off
   integrality h e = let z : i ≡ suc (i - 1) = omega (arith, h) in ap not e ∙ sym (ap (tolerance_off feas int_tol) z)
 
-module _ (feas int_tol : Float) where
-  pub both_fine : {p q : Bool} → p ≡ tolerable feas → p ≡ true → q ≡ tolerable int_tol → q ≡ true → 2 ≡ first (tolerance_off feas int_tol) 2 0
-  unfolding first tolerance_off
-  both_fine a s b t =
-      sym (ap (λ (c : Bool). choose (not c) 0 (choose (not (tolerable int_tol)) 1 2)) (sym a ∙ s) ∙ left {b = false} 0 (choose (not (tolerable int_tol)) 1 2) refl
-      ∙ ap (λ (c : Bool). choose (not c) 1 2) (sym b ∙ t) ∙ left {b = false} 1 2 refl)
-
-  pub second_off : {p q : Bool} → p ≡ tolerable feas → p ≡ true → q ≡ tolerable int_tol → q ≡ false → 1 ≡ first (tolerance_off feas int_tol) 2 0
-  unfolding first tolerance_off
-  second_off a s b t =
-      sym (ap (λ (c : Bool). choose (not c) 0 (choose (not (tolerable int_tol)) 1 2)) (sym a ∙ s) ∙ left {b = false} 0 (choose (not (tolerable int_tol)) 1 2) refl
-      ∙ ap (λ (c : Bool). choose (not c) 1 2) (sym b ∙ t) ∙ chosen {b = true} 1 2 refl)
-
-  pub first_off : {p : Bool} → p ≡ tolerable feas → p ≡ false → 0 ≡ first (tolerance_off feas int_tol) 2 0
-  unfolding first tolerance_off
-  first_off a s = sym (ap (λ (c : Bool). choose (not c) 0 (choose (not (tolerable int_tol)) 1 2)) (sym a ∙ s) ∙ chosen {b = true} 0 (choose (not (tolerable int_tol)) 1 2) refl)
-
 pub mode_one : (m : ℕ) → m ≡ 1 → false ≡ mode_off m 0
 unfolding mode_off
 mode_one m e = sym (ap (λ (k : ℕ). not (eqb k 1 || eqb k 2)) e)
@@ -197,3 +133,12 @@ mode_one m e = sym (ap (λ (k : ℕ). not (eqb k 1 || eqb k 2)) e)
 pub mode_other : (m : ℕ) → (m ≡ 1 → ⊥) → not (eqb m 2) ≡ mode_off m 0
 unfolding mode_off
 mode_other m h = sym (ap (λ (b : Bool). not (b || eqb m 2)) (ne_eqb m 1 h))
+
+-- ---- an objective
+pub objective_by : (obj : List Float) (v : ℕ) {c : Float} {b : Bool} → c ≡ at obj v → b ≡ is_whole c → not b ≡ objective_off obj v
+unfolding objective_off
+objective_by obj v a e = ap not (e ∙ ap is_whole a)
+
+pub objective_past : (obj : List Float) (v : ℕ) → length obj ≤ v → true ≡ objective_off obj v
+unfolding objective_off is_whole
+objective_past obj v h = sym (ap (λ (z : Float). not (is_whole z)) (get_or-eq_default obj nan h))

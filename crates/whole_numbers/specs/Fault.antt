@@ -1,6 +1,6 @@
 -- 01's FARM MODEL AS A TEST: the earliest of 01's conditions that a model fails, and the first place where it does, or none. The conditions stand
 -- in 01's order. `Exactly` proves that none fails exactly where the model is `WholeNumbers` (points_kept), the hypothesis of the promise about points.
--- `told` asks the objective after them; the code answers `fault`.
+-- `told` asks the objective after them, and is what the code answers.
 use Rattle.std.specs.Prelude.{ℕ, zero, suc, ◌+◌, ◌-◌, Bool, not, ◌&&◌, ◌||◌, List, [], ◌∷◌, ◌++◌, eqb, ltb, leb, length, get_or, Float}
 use Rattle.std.proofs.Math.Option.{Option, none, some}
 use Rattle.std.specs.Float.{binary64}
@@ -64,16 +64,30 @@ pub record Condition : Type 0 where
   pub places : ℕ
 
 -- 01, 'Farm model', sentence by sentence
+module _ (M : Model) where
+  abbrev pub domains : Condition
+  domains = record { number = 1; fails = domain_off M.domain; places = length M.lower }
+
+  abbrev pub bounds : Condition
+  bounds = record { number = 2; fails = bounds_off M.lower M.upper; places = length M.lower }
+
+  abbrev pub coefficients : Condition
+  coefficients = record { number = 3; fails = number_off 32768 M.coeff; places = length M.index }
+
+  abbrev pub right_sides : Condition
+  right_sides = record { number = 4; fails = number_off 1099511627776 M.rhs; places = length M.rhs }
+
+  abbrev pub lengths : Condition
+  lengths = record { number = 5; fails = row_long M.starts; places = length M.rhs }
+
+  abbrev pub tolerances : Condition
+  tolerances = record { number = 6; fails = tolerance_off M.feas M.int_tol; places = 2 }
+
+  abbrev pub mode : Condition
+  mode = record { number = 7; fails = mode_off M.mode; places = 1 }
+
 unfoldable pub conditions : Model → List Condition
-conditions M =
-    record { number = 1; fails = domain_off M.domain; places = length M.lower }
-    ∷ record { number = 2; fails = bounds_off M.lower M.upper; places = length M.lower }
-    ∷ record { number = 3; fails = number_off 32768 M.coeff; places = length M.index }
-    ∷ record { number = 4; fails = number_off 1099511627776 M.rhs; places = length M.rhs }
-    ∷ record { number = 5; fails = row_long M.starts; places = length M.rhs }
-    ∷ record { number = 6; fails = tolerance_off M.feas M.int_tol; places = 2 }
-    ∷ record { number = 7; fails = mode_off M.mode; places = 1 }
-    ∷ []
+conditions M = domains M ∷ bounds M ∷ coefficients M ∷ right_sides M ∷ lengths M ∷ tolerances M ∷ mode M ∷ []
 
 -- the earliest condition that fails, and its first place
 unfoldable pub earliest_fault : List Condition → Option (ℕ × ℕ)
@@ -87,7 +101,7 @@ unfoldable pub fault : Model → Option (ℕ × ℕ)
 fault M = earliest_fault (conditions M)
 
 -- what 02's W13 asks beside the farm model: a whole objective. 01 asks nothing of the objective, so it stands last, and 8 is told of farm models alone
-unfoldable pub objective : Model → Condition
+abbrev pub objective : Model → Condition
 objective M = record { number = 8; fails = objective_off M.obj; places = length M.lower }
 
 -- the earliest fault of 01's conditions and, where none of them fails, of the objective

@@ -1,11 +1,11 @@
 -- The laws of `first`: what makes a place the first, and what its answer says.
-use Rattle.std.specs.Prelude.{ℕ, zero, suc, ◌+◌, ◌-◌, ◌≤◌, ◌<◌, ◌≡◌, refl, Bool, true, false}
+use Rattle.std.specs.Prelude.{ℕ, zero, suc, ◌+◌, ◌≤◌, ◌<◌, ◌≡◌, refl, Bool, true, false, Option, Some, None, MatchOption}
 use Rattle.std.proofs.Common.{arith, sym, ap, subst, ◌∙◌}
 use Rattle.std.proofs.Math.Decide.{ℕ_discrete}
 use Rattle.std.proofs.lemmas.Bool.{false≢true}
-use Rattle.floats.specs.Num.{choose}
 use Rattle.definition.specs.Choices.{chosen, left}
-use Rattle.whole_numbers.specs.Fault.{first}
+use Rattle.whole_numbers.specs.Fault.{first, Condition}
+use Rattle.whole_numbers.specs.Of.{Found}
 
 -- ---- the first that passes is the one that passes with none before it
 pub first_is : (p : ℕ → Bool) (n j i : ℕ) → j ≤ i → i < j + n → p i ≡ true → ((k : ℕ) → j ≤ k → k < i → p k ≡ false) → i ≡ first p n j
@@ -21,13 +21,6 @@ first_is p (suc n) j i a b e h = go (p j) refl (first_is p n (suc j) i)
           | yes s ↦ absurd (false≢true (sym (ap p (sym s) ∙ q) ∙ e))
           | no s ↦ later (omega (arith, s)) (omega arith) e (λ k u v. h k (omega (arith, u)) v) ∙ sym (left j (first p n (suc j)) q)
         ]
-
-step : (p : ℕ → Bool) (n i m : ℕ) → n - i ≡ suc m → first p (n - i) i ≡ choose (p i) i (first p m (suc i))
-unfolding first
-step p n i m e = ap (λ (k : ℕ). first p k i) e
-
-less : (n i : ℕ) → i < n → n - i ≡ suc (n - (i + 1))
-less n i h = omega arith
 
 -- ---- what the answer says: no place passes exactly where the first one is past the end
 pub none_pass : (p : ℕ → Bool) (n j : ℕ) → j + n ≤ first p n j → (i : ℕ) → j ≤ i → i < j + n → p i ≡ false
@@ -49,8 +42,9 @@ past_end p (suc n) j h =
     let l = past_end p n (suc j) (λ i a b. h i (omega arith) (omega arith)) in
     omega (arith, e, l)
 
--- tests that agree find the same place
-pub alike : {p q : ℕ → Bool} → ((i : ℕ) → p i ≡ q i) → (n j : ℕ) → first p n j ≡ first q n j
-unfolding first
-alike e zero j = refl
-alike {p} {q} e (suc n) j = ap (λ (b : Bool). choose b j (first p n (suc j))) (e j) ∙ ap (choose (q j) j) (alike e n (suc j))
+-- what `find` says of a condition's n places
+pub found_is : (c : Condition) {n : ℕ} → n ≡ c.places → (r : Option ℕ)
+    → MatchOption r ((k : ℕ) → 0 ≤ k → k < n → c.fails k ≡ false)
+    (λ i. (0 ≤ i) × (i < n) × (c.fails i ≡ true) × ((k : ℕ) → 0 ≤ k → k < i → c.fails k ≡ false)) → Found c r
+found_is c e None h = let l = past_end c.fails c.places 0 (λ i a b. h i a (omega (arith, b, e))) in omega (arith, l)
+found_is c e (Some i) h = let l : i < c.places = omega (arith, h.1, e) in (first_is c.fails c.places 0 i h.0 (omega (arith, l)) h.2 h.3, l)

@@ -13,8 +13,7 @@ use Rattle.floats.proofs.Points.{of_units, le_is, abs_is}
 use Rattle.floats.proofs.Meaning.{floor_value}
 use Rattle.floats.proofs.Growth.{floor_fixes}
 use Rattle.tolerances.specs.Tol.{at}
-use Rattle.whole_numbers.specs.Fault.{first, whole_within, number_off}
-use Rattle.whole_numbers.specs.First.{alike}
+use Rattle.whole_numbers.specs.Fault.{whole_within, number_off}
 
 module _ (x : Float) (h : Num x) where
   own_floor : T (eq (floor x) x) → T (is_whole x)
@@ -66,6 +65,3 @@ beyond limit xs i = not (is_whole (at xs i) && le (abs (at xs i)) limit)
 pub beyond_at : (limit : Float) (k : ℕ) → Is limit (pos k) → (xs : List Float) (i : ℕ) → beyond limit xs i ≡ number_off k xs i
 unfolding beyond number_off
 beyond_at limit k l xs i = ap not (within_is (at xs i) limit k l)
-
-pub beyond_is : (limit : Float) (k : ℕ) → Is limit (pos k) → (xs : List Float) (n : ℕ) → first (beyond limit xs) n 0 ≡ first (number_off k xs) n 0
-beyond_is limit k l xs n = alike (beyond_at limit k l xs) n 0

@@ -1,4 +1,5 @@
--- 01's farm model as a test: the first of its conditions that fails, and where (Fault); that no condition fails exactly where the model is one (Exactly).
+-- 01's farm model as a test, and a whole objective after it: the first condition that fails, and where (Fault); that none fails exactly where the model
+-- is one, and its objective whole (Exactly).
 pub mod Fault
 pub mod Of
 pub mod First

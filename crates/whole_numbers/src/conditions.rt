@@ -1,4 +1,4 @@
-// 01's conditions of a farm model: each as the test that fails it at a place. What lies outside a slice
+// 01's conditions of a farm model, and the objective's: each as the test that fails it at a place. What lies outside a slice
 // reads as the definition's lists do, so nothing is asked of the caller. `is_some_and` and `is_none_or` were
 // tried in place of a match: the proofs did not close, since what a closure without a clause says cannot be cited
 // there, and with one it is longer than the match.
@@ -6,7 +6,7 @@ ghost use Rattle.std.specs.Prelude.{◌≡◌, ◌&&◌};
 ghost use Rattle.std.specs.Float.Ieee.{le};
 ghost use Rattle.floats.specs.Num.{abs};
 ghost use Rattle.floats.specs.Points.{is_whole};
-ghost use Rattle.whole_numbers.specs.Fault.{tolerable, domain_off, bounds_off, row_long, tolerance_off, mode_off};
+ghost use Rattle.whole_numbers.specs.Fault.{tolerable, domain_off, bounds_off, row_long, tolerance_off, mode_off, objective_off};
 ghost use Rattle.whole_numbers.specs.Floats.{beyond};
 
 use floats::{absolute, floor, is_finite};
@@ -83,4 +83,14 @@ pub(crate) fn mode_off(mode: u8) -> bool
     ensures { result ≡ mode_off mode 0 }
 {
     mode != 1 && mode != 2
+}
+
+// An objective that is not whole. Its size is free.
+pub(crate) fn objective_off(obj: &[f64], v: usize) -> bool
+    ensures { result ≡ objective_off obj.now v }
+{
+    match obj.get(v) {
+        Some(c) => !is_whole(*c),
+        None => true,
+    }
 }

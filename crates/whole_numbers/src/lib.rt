@@ -1,17 +1,20 @@
-// Whether a model is 01's farm model, for which the promise about points is made; where it is not,
-// which of 01's conditions fails first, and where. Added by the port. The contract is one equation
-// with specs/Fault, and specs/Exactly says what an answer of no fault means.
+// Whether a model is 01's farm model, for which the promise about points is made, and its objective
+// whole, which the promise about the least objective asks besides; where not, which condition fails
+// first, and where. Added by the port. The contract is one equation with specs/Fault, and
+// proofs/Exactly says what an answer means.
 #![tactic(auto)]
 
 mod conditions;
 
-ghost use Rattle.std.specs.Prelude.{◌≡◌, ◌<◌, ◌^◌, ℕ, Bool};
-ghost use Rattle.whole_numbers.specs.Fault.{fault};
-ghost use Rattle.whole_numbers.specs.Of.{numbers_of, numbers_is, number, Asked};
+ghost use Rattle.std.specs.Prelude.{◌≡◌};
+ghost use Rattle.definition.specs.Of.{input_model};
+ghost use Rattle.whole_numbers.specs.Fault.{told};
+ghost use Rattle.whole_numbers.specs.Of.{numbers_is, number, asked, Found};
 
 use definition::Input;
 
-// 01's conditions, in their order, by which they are numbered.
+// 01's conditions, in their order, by which they are numbered. The objective is no part of a farm model and is
+// asked last, so of a model that is told to fail there 01's conditions hold.
 #[derive(Clone, Copy)]
 pub enum Condition {
     Domains = 1,
@@ -21,7 +24,19 @@ pub enum Condition {
     Lengths = 5,
     Tolerances = 6,
     Mode = 7,
+    Objective = 8,
 }
+
+const CONDITIONS: [Condition; 8] = [
+    Condition::Domains,
+    Condition::Bounds,
+    Condition::Coefficients,
+    Condition::RightSides,
+    Condition::Lengths,
+    Condition::Tolerances,
+    Condition::Mode,
+    Condition::Objective,
+];
 
 impl From<Condition> for u8 {
     ghost use Rattle.whole_numbers.specs.Of.{number};
@@ -41,59 +56,50 @@ pub struct Fault {
     pub place: usize,
 }
 
-// Asks a condition, by the test that fails it, at so many places.
-fn ask<F: Fn(usize) -> bool + Drop>(
-    condition: Condition,
-    places: usize,
-    fails: F,
-) -> Result<(), Fault>
-    requires { F.IsAlwaysCallable fails }
-    ensures { (p : ℕ → Bool) → ((i : ℕ) (b : Bool) → i < 2 ^ 64 → F.post fails i b → b ≡ p i) → Asked condition p places result }
+// At how many places a condition is asked.
+fn places(input: &Input<'_>, condition: Condition) -> usize
+    ensures { result ≡ (asked (input_model input.now) condition).places }
 {
-    match (0..places).find(|i| fails(*i)) {
-        Some(place) => Err(Fault { condition, place }),
-        None => Ok(()),
+    match condition {
+        Condition::Domains | Condition::Bounds | Condition::Objective => input.lower.len(),
+        Condition::Coefficients => input.rows.index.len(),
+        Condition::RightSides | Condition::Lengths => input.rows.rhs.len(),
+        Condition::Tolerances => 2,
+        Condition::Mode => 1,
     }
 }
 
-// = fault, of the model that is handed in. Its objective and comparisons are not looked at.
-pub fn whole_numbers(input: Input<'_>) -> Result<(), Fault>
-    ensures { numbers_is result ≡ fault (numbers_of input.entry.lower.now input.entry.upper.now input.entry.domain.now
-        input.entry.rows.starts.now input.entry.rows.index.now input.entry.rows.coeff.now input.entry.rows.rhs.now
-        input.entry.mode input.entry.feas input.entry.int_tol) }
+// Whether a condition fails at a place.
+fn fails(input: &Input<'_>, condition: Condition, place: usize) -> bool
+    ensures { result ≡ (asked (input_model input.now) condition).fails place }
 {
-    let vars = input.lower.len();
-    let terms = input.rows.index.len();
-    let rows = input.rows.rhs.len();
-    ask(
-        Condition::Domains,
-        vars,
-        |v| conditions::domain_off(input.domain, v),
-    )?;
-    ask(
-        Condition::Bounds,
-        vars,
-        |v| conditions::bounds_off(input.lower, input.upper, v),
-    )?;
-    ask(
-        Condition::Coefficients,
-        terms,
-        |k| conditions::number_off(input.rows.coeff, 32768.0, k),
-    )?;
-    ask(
-        Condition::RightSides,
-        rows,
-        |r| conditions::number_off(input.rows.rhs, 1099511627776.0, r),
-    )?;
-    ask(
-        Condition::Lengths,
-        rows,
-        |r| conditions::row_long(input.rows.starts, r),
-    )?;
-    ask(
-        Condition::Tolerances,
-        2,
-        |i| conditions::tolerance_off(input.feas, input.int_tol, i),
-    )?;
-    ask(Condition::Mode, 1, |_| conditions::mode_off(input.mode))
+    match condition {
+        Condition::Domains => conditions::domain_off(input.domain, place),
+        Condition::Bounds => conditions::bounds_off(input.lower, input.upper, place),
+        Condition::Coefficients => conditions::number_off(input.rows.coeff, 32768.0, place),
+        Condition::RightSides => conditions::number_off(input.rows.rhs, 1099511627776.0, place),
+        Condition::Lengths => conditions::row_long(input.rows.starts, place),
+        Condition::Tolerances => conditions::tolerance_off(input.feas, input.int_tol, place),
+        Condition::Mode => conditions::mode_off(input.mode),
+        Condition::Objective => conditions::objective_off(input.obj, place),
+    }
+}
+
+// The first place where a condition fails.
+fn first_place(input: &Input<'_>, condition: Condition) -> Option<usize>
+    ensures { Found (asked (input_model input.now) condition) result }
+{
+    (0..places(input, condition)).find(|place| fails(input, condition, *place))
+}
+
+// = told, of the model that is handed in. Its comparisons are not looked at.
+pub fn whole_numbers(input: Input<'_>) -> Result<(), Fault>
+    ensures { numbers_is result ≡ told (input_model input.entry) }
+{
+    for condition in CONDITIONS {
+        if let Some(place) = first_place(&input, condition) {
+            return Err(Fault { condition, place });
+        }
+    }
+    Ok(())
 }

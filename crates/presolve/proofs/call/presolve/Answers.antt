@@ -2,7 +2,7 @@
 use borrow.Author.Rules.{rules}
 use mathlib.Core.Path.{ap, ◌∙◌}
 use Rattle.definition.specs.Refusal.{refusal}
-use Rattle.refuse.specs.Of.{input_model}
+use Rattle.definition.specs.Of.{input_model}
 use Rattle.presolve.specs.Steps.{promise_refused}
 use Rattle.presolve.proofs.call.presolve.Goals as goal
 

@@ -1,5 +1,5 @@
 -- `codes_wrong` computes its definition.
-use Rattle.refuse.specs.Of.{input_model}
+use Rattle.definition.specs.Of.{input_model}
 use Rattle.refuse.specs.Rows.{codes_are}
 use Rattle.refuse.proofs.rows.codes_wrong.Goals as goal
 

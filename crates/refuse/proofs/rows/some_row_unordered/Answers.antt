@@ -3,7 +3,7 @@ use native.Mathlib.Omega.{arith}
 use mathlib.Core.Path.{sym, ◌∙◌}
 use borrow.Author.Rules.{rules}
 use Rattle.refuse.specs.Laws.{start, turn, found, end}
-use Rattle.refuse.specs.Of.{input_model}
+use Rattle.definition.specs.Of.{input_model}
 use Rattle.refuse.specs.Rows.{span, unordered_is}
 use Rattle.refuse.proofs.rows.some_row_unordered.Goals as goal
 

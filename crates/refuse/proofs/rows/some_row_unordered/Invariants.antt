@@ -1,7 +1,7 @@
 -- The invariant: no row before has them out of order.
 use lib.ListN.{length}
 use Rattle.definition.specs.Refusal.{row_unordered}
-use Rattle.refuse.specs.Of.{input_model}
+use Rattle.definition.specs.Of.{input_model}
 use Rattle.refuse.specs.Laws.{Passed}
 use Rattle.refuse.proofs.rows.some_row_unordered.Given as goal
 

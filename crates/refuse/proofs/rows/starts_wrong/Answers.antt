@@ -1,6 +1,6 @@
 -- `starts_wrong` computes its definition.
 use Rattle.refuse.specs.Rows.{starts_are}
-use Rattle.refuse.specs.Of.{input_model}
+use Rattle.definition.specs.Of.{input_model}
 use Rattle.refuse.proofs.rows.starts_wrong.Goals as goal
 
 pub returns : goal.returns
