@@ -36,10 +36,8 @@ def nearest(q):
 
 
 def whole(x, part):
-    """x to a whole number by `part`, math.floor or math.ceil on fractions. The sign stays, on a zero too."""
-    if not math.isfinite(x):
-        return x
-    return math.copysign(float(part(Fraction(x))), x)
+    """x to a whole number by `part`, math.floor or math.ceil on fractions. A zero is plus zero, whatever x's sign."""
+    return float(part(Fraction(x))) if math.isfinite(x) else x
 
 
 def next_up(x):

@@ -153,6 +153,10 @@ def edges():
     half = bits_of(0.5)
     yield "half", file_of([P], [], mode=0, feasibility=half, int_tol=half), ["answer unchanged", "counts 0 0 0 0 0"] + bound_lines([(ZERO, TEN)]), "both tolerances 0.5; mode 0 leaves the bounds"
     yield "minus-zero", file_of([P], [], mode=0, feasibility=SIGN, int_tol=SIGN), ["answer unchanged", "counts 0 0 0 0 0"] + bound_lines([(ZERO, TEN)]), "both tolerances minus zero, which is a zero"
+    signed = [(REAL, ZERO, SIGN, TEN), (INTEGER, ZERO, SIGN, TEN), (BOOLEAN, ZERO, SIGN, SIGN)]
+    plain = [(SIGN, TEN), (ZERO, TEN), (ZERO, ZERO)]
+    yield "minus-zero-bounds", file_of(signed, []), ["answer unchanged", "counts 0 0 0 0 0"] + bound_lines(plain), "bounds of minus zero: a Real variable keeps its own, what is rounded is plus zero"
+    yield "minus-zero-mode-0", file_of(signed, [], mode=0), ["answer unchanged", "counts 0 0 0 0 0"] + bound_lines([(low, high) for _, _, low, high in signed]), "the same in mode 0, where all are kept"
     yield "le-inf", file_of([P], [([(0, TWO)], LE, INF)], mode=0), ["answer reduced", "counts 1 0 0 0 0"] + bound_lines([(ZERO, TEN)]), "<= +infinity is trivially true: dropped, never validated"
     yield "ge-minus-inf", file_of([P], [([(0, TWO)], GE, INF | SIGN)], mode=0), ["answer reduced", "counts 1 0 0 0 0"] + bound_lines([(ZERO, TEN)]), ">= -infinity likewise"
     yield "open-upper", file_of([(REAL, ZERO, INF | SIGN, INF)], []), ["answer unchanged", "counts 0 0 0 0 0"] + bound_lines([(INF | SIGN, INF)]), "open bounds; a Real variable keeps what it was given"

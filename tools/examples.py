@@ -5,8 +5,8 @@ on and must print.
     tools/examples.py             writes the files
     tools/examples.py --check     says which files are not as they would be written; exit status 1 if there is one
 
-Written by hand: the texts of TEXTS, and examples/day-NN.expected, from the scope paper. From the reference, by
-`compare/run file`: the other NAME.expected of a text. Nothing is taken from a run of the port.
+Written by hand: the texts of TEXTS, and examples/day-NN.expected, from the scope paper. From the reference with 02's W1
+applied, by `compare/run file`: the other NAME.expected of a text. Nothing is taken from a run of the port.
 """
 import io
 import os

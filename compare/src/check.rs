@@ -17,6 +17,11 @@ fn same(a: f64, b: f64) -> bool {
     a == b || a.is_nan() && b.is_nan()
 }
 
+// Equal, the sign of zero too.
+fn exact(a: f64, b: f64) -> bool {
+    same(a, b) && (a != 0.0 || a.to_bits() == b.to_bits())
+}
+
 // What was seen over many calls.
 #[derive(Default)]
 pub struct Seen {
@@ -27,6 +32,7 @@ pub struct Seen {
     pub unchanged: u64,
     pub refused: [u64; 11],
     pub rewritten_rows: u64,
+    // calls with a zero of another sign that passed for the same
     pub zero_signs: u64,
     pub whole: u64,
 }
@@ -61,12 +67,13 @@ impl Check {
             self.wrong.push(what());
         }
     }
-    // The front of got is want, what follows is as before.
-    fn floats(&mut self, name: &str, got: &[f64], want: &[f64], before: &[f64]) {
+    // The front of got is want by `like`, what follows is as before.
+    fn floats(&mut self, name: &str, like: fn(f64, f64) -> bool, got: &[f64], want: &[f64], before: &[f64]) {
         for i in 0..got.len() {
             if i < want.len() {
-                self.fact(same(got[i], want[i]), || format!("{name}[{i}]: {:016x} ({:e}), the reference has {:016x} ({:e})", got[i].to_bits(), got[i], want[i].to_bits(), want[i]));
-                self.zero_signs += (got[i] == 0.0 && got[i].to_bits() != want[i].to_bits()) as u64;
+                let alike = like(got[i], want[i]);
+                self.fact(alike, || format!("{name}[{i}]: {:016x} ({:e}), it must be {:016x} ({:e})", got[i].to_bits(), got[i], want[i].to_bits(), want[i]));
+                self.zero_signs += (alike && !exact(got[i], want[i])) as u64;
             } else {
                 self.fact(got[i].to_bits() == before[i].to_bits(), || format!("{name}[{i}] was written past the used front"));
             }
@@ -83,18 +90,19 @@ impl Check {
         }
         self.fact(want.len() <= got.len(), || format!("{name}: more entries than lent"));
     }
-    // The result slices and the answer's numbers.
+    // The result slices and the answer's numbers. Of a bound the sign of zero counts: what is rounded is never minus zero, and a
+    // given minus zero that is not rounded stays.
     fn results(&mut self, got: &Lent, want: &Lent, before: &Lent) {
-        self.floats("lower", &got.lower, &want.lower, &before.lower);
-        self.floats("upper", &got.upper, &want.upper, &before.upper);
+        self.floats("lower", exact, &got.lower, &want.lower, &before.lower);
+        self.floats("upper", exact, &got.upper, &want.upper, &before.upper);
         self.numbers("emit_row", &got.emit_row, &want.emit_row, &before.emit_row);
         self.numbers("emit_rewritten", &got.emit_rewritten, &want.emit_rewritten, &before.emit_rewritten);
-        self.floats("emit_rhs", &got.emit_rhs, &want.emit_rhs, &before.emit_rhs);
+        self.floats("emit_rhs", same, &got.emit_rhs, &want.emit_rhs, &before.emit_rhs);
         self.numbers("emit_from", &got.emit_from, &want.emit_from, &before.emit_from);
         self.numbers("emit_upto", &got.emit_upto, &want.emit_upto, &before.emit_upto);
         self.numbers("kept", &got.kept, &want.kept, &before.kept);
         self.numbers("term_index", &got.term_index, &want.term_index, &before.term_index);
-        self.floats("term_coeff", &got.term_coeff, &want.term_coeff, &before.term_coeff);
+        self.floats("term_coeff", same, &got.term_coeff, &want.term_coeff, &before.term_coeff);
         self.numbers("answer", &got.answer, &want.answer, &before.answer);
     }
     // All working slices are plus zero.
@@ -114,7 +122,7 @@ impl Check {
         self.fact(code == number, || format!("answered {code}, the table has {number}"));
         let nothing = Lent::zeros(&Sizes::NONE);
         self.results(got, &nothing, before);
-        self.floats("floats", &got.floats, &[], &before.floats);
+        self.floats("floats", same, &got.floats, &[], &before.floats);
         self.numbers("numbers", &got.numbers, &[], &before.numbers);
         self.numbers("adjacency", &got.adjacency, &[], &before.adjacency);
         self.guards(got);

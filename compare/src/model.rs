@@ -64,6 +64,10 @@ impl Model {
     pub fn row_terms(&self, r: usize) -> Vec<(usize, f64)> {
         (self.starts[r]..self.starts[r + 1]).map(|t| (self.index[t], self.coeff[t])).collect()
     }
+    // Whether presolve rounds the variable's bounds: in Mip, of every domain but Real.
+    pub fn rounds(&self, v: usize) -> bool {
+        self.mode > 0 && self.domain[v] != REAL
+    }
     // 01's farm model: whole numbers throughout, within its limits.
     pub fn is_whole(&self) -> bool {
         let whole = |x: f64, most: f64| x.fract() == 0.0 && x.abs() <= most;

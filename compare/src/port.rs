@@ -146,7 +146,7 @@ mod stand_in {
 
     // Which of the faults below the stand-in has; none by default.
     pub static FAULT: AtomicUsize = AtomicUsize::new(usize::MAX);
-    pub const FAULTS: [&str; 24] = [
+    pub const FAULTS: [&str; 28] = [
         "a count of an infeasible answer is 0",
         "a lower bound is one unit off",
         "an upper bound is one unit off",
@@ -171,6 +171,10 @@ mod stand_in {
         "infeasible where no row is left",
         "the word before a result slice is written",
         "the word after a working slice is written",
+        "an integer's lower bound is minus zero",
+        "an integer's upper bound is minus zero",
+        "a Real variable's given minus zero comes out as plus zero",
+        "in mode 0 a given minus zero comes out as plus zero",
     ];
 
     fn up(x: f64) -> f64 {
@@ -252,6 +256,20 @@ mod stand_in {
                 }
                 if fault(2) && m.vars() > 0 && s.upper[0].is_finite() {
                     s.upper[0] = up(s.upper[0]);
+                }
+                for v in 0..m.vars() {
+                    if m.rounds(v) {
+                        if fault(24) && s.lower[v] == 0.0 {
+                            s.lower[v] = -0.0;
+                        }
+                        if fault(25) && s.upper[v] == 0.0 {
+                            s.upper[v] = -0.0;
+                        }
+                    } else if fault(if m.mode > 0 { 26 } else { 27 }) {
+                        // plus zero added: of minus zero it makes plus zero, of no other float another
+                        s.lower[v] += 0.0;
+                        s.upper[v] += 0.0;
+                    }
                 }
                 if fault(3) {
                     emitted = emitted.saturating_sub(1);

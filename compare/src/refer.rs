@@ -1,4 +1,5 @@
-// The reference's answer to a model: microlp's own text, run as it is and once more with notes. The two must agree.
+// The reference's answer to a model: microlp's own text, run as it is and once more with notes. The two must agree. Then 02's W1
+// is applied to it: what is rounded to a whole number and is zero is plus zero.
 use crate::input::plain_input;
 use crate::model::{Answer, Emit, Model, Reduced};
 
@@ -29,6 +30,19 @@ fn same(a: &Option<plain::Output>, b: &Option<noted::Output>) -> bool {
     }
 }
 
+// The bounds by W1. In Mip every finite bound of an integer variable comes from rounding, so none is minus zero; the others must be
+// the given ones, their minus zeros too. No other result changes: a zero's sign decides nothing, and reaches no row.
+fn plus_zeros(m: &Model, given: &[f64], mut bounds: Vec<f64>) -> Vec<f64> {
+    for v in 0..m.vars() {
+        if !m.rounds(v) {
+            assert_eq!(bounds[v].to_bits(), given[v].to_bits(), "a bound that is not rounded is as given");
+        } else if bounds[v] == 0.0 {
+            bounds[v] = 0.0;
+        }
+    }
+    bounds
+}
+
 pub fn reference(m: &Model) -> Answer {
     noted::take_notes();
     let result = noted::run(&input!(noted, m));
@@ -57,7 +71,8 @@ pub fn reference(m: &Model) -> Answer {
         let span = m.starts[r]..m.starts[r + 1];
         assert!(c.indices() == &m.index[span.clone()] && bits(c.data()).eq(bits(&m.coeff[span])) && b.to_bits() == m.rhs[r].to_bits(), "a kept row is as given");
     }
-    Answer::Done(Reduced { counts: p.counts, lower: p.lower, upper: p.upper, emitted, terms, kept: notes.kept, flag: p.reduced })
+    let (lower, upper) = (plus_zeros(m, &m.lower, p.lower), plus_zeros(m, &m.upper, p.upper));
+    Answer::Done(Reduced { counts: p.counts, lower, upper, emitted, terms, kept: notes.kept, flag: p.reduced })
 }
 
 // `reduced_model` gives a model exactly where presolve is done and reduced something.

@@ -172,7 +172,7 @@ impl Run {
         let models = s.infeasible + s.reduced + s.unchanged;
         println!("port: {}", port::NAME);
         println!("models: {} (infeasible {}, reduced {}, unchanged {}), farm models among them {}", thousands(models), thousands(s.infeasible), thousands(s.reduced), thousands(s.unchanged), thousands(s.whole));
-        println!("rewritten rows emitted: {}; answers with a zero of another sign: {}", thousands(s.rewritten_rows), thousands(s.zero_signs));
+        println!("rewritten rows emitted: {}; answers with a zero of another sign in a row: {}", thousands(s.rewritten_rows), thousands(s.zero_signs));
         print!("{}", self.listed.totals());
         let refused: Vec<String> = (1..11).map(|k| format!("{k}: {}", thousands(s.refused[k]))).collect();
         println!("refused calls: {}", refused.join(", "));

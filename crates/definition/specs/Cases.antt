@@ -8,7 +8,7 @@ use Rattle.std.specs.Float.{binary64}
 use Rattle.std.specs.Float.Ieee.{neg, add, sub, mul, div, lt, eq, le, round, of_int, of_bits, to_bits, is_nan, ne}
 use Rattle.floats.specs.Value.{mags}
 use Rattle.floats.specs.Next.{gap, prev}
-use Rattle.floats.specs.Num.{choose, is_finite, is_infinite, abs, maxf, minf, trunc_of, away_of, floor, ceil, next_up, next_down, of_count}
+use Rattle.floats.specs.Num.{choose, is_finite, is_infinite, abs, maxf, minf, trunc_of, away_of, plus_zero, floor, ceil, next_up, next_down, of_count}
 use Rattle.cdouble.specs.Double as double
 use Rattle.tolerances.specs.Tol.{Term, term, row_tolerance, bound_tolerance, outside, slack_min, slack_max, trivial_verdict, slack_margin}
 use Rattle.tolerances.specs.Tol.{slack_tol, less_term, implied_from, implied_slack, says_true, violated, zip_terms}
@@ -178,26 +178,26 @@ pub record Case : Type 0 where
 abbrev pub case : Model → Answer → Case
 case m a = record { model = m; answer = a }
 
--- ---- the table, numbers as in 01. Rounding makes a lower bound of 0 minus zero
+-- ---- the table, numbers as in 01
 unfoldable pub cases : List Case
 cases =
     -- 1. 2p ≤ 7
     case (model 1 (p ∷ []) (is_le (2 · 0 ∷ []) (# 7) ∷ []))
-    (done (record { counts = counts 1 1 0 0 2; lower = -0f ∷ []; upper = # 3 ∷ []; emitted = []; terms = []; kept = 0 ∷ []; flag = true }))
+    (done (record { counts = counts 1 1 0 0 2; lower = # 0 ∷ []; upper = # 3 ∷ []; emitted = []; terms = []; kept = 0 ∷ []; flag = true }))
     -- 2. 2p ≤ 6: only its tolerance keeps the row
     ∷ case (model 1 (p ∷ []) (is_le (2 · 0 ∷ []) (# 6) ∷ []))
-    (done (record { counts = counts 0 1 0 0 2; lower = -0f ∷ []; upper = # 3 ∷ []; emitted = written_row 0 (# 6) 0 1 ∷ []; terms = []; kept = []; flag = true }))
+    (done (record { counts = counts 0 1 0 0 2; lower = # 0 ∷ []; upper = # 3 ∷ []; emitted = written_row 0 (# 6) 0 1 ∷ []; terms = []; kept = []; flag = true }))
     -- 3. 2p = 7
     ∷ case (model 1 (p ∷ []) (is_eq (2 · 0 ∷ []) (# 7) ∷ [])) (infeasible (counts 0 0 0 0 1))
     -- 4. 2p ≤ 1: no fixed variable is counted
     ∷ case (model 1 (p ∷ []) (is_le (2 · 0 ∷ []) (# 1) ∷ []))
-    (done (record { counts = counts 1 1 0 0 2; lower = -0f ∷ []; upper = # 0 ∷ []; emitted = []; terms = []; kept = 0 ∷ []; flag = true }))
+    (done (record { counts = counts 1 1 0 0 2; lower = # 0 ∷ []; upper = # 0 ∷ []; emitted = []; terms = []; kept = 0 ∷ []; flag = true }))
     -- 5. u + v ≥ 2
     ∷ case (model 1 (u ∷ v ∷ []) (is_ge (1 · 0 ∷ 1 · 1 ∷ []) (# 2) ∷ []))
     (done (record { counts = counts 1 0 2 0 2; lower = # 1 ∷ # 1 ∷ []; upper = # 1 ∷ # 1 ∷ []; emitted = []; terms = []; kept = 0 ∷ []; flag = true }))
     -- 6. u + v ≥ 1
     ∷ case (model 1 (u ∷ v ∷ []) (is_ge (1 · 0 ∷ 1 · 1 ∷ []) (# 1) ∷ []))
-    (done (record { counts = counts 0 0 0 0 1; lower = -0f ∷ -0f ∷ []; upper = # 1 ∷ # 1 ∷ []; emitted = written_row 0 (# 1) 0 2 ∷ []; terms = []; kept = []; flag = false }))
+    (done (record { counts = counts 0 0 0 0 1; lower = # 0 ∷ # 0 ∷ []; upper = # 1 ∷ # 1 ∷ []; emitted = written_row 0 (# 1) 0 2 ∷ []; terms = []; kept = []; flag = false }))
     -- 7. u + v ≥ 3
     ∷ case (model 1 (u ∷ v ∷ []) (is_ge (1 · 0 ∷ 1 · 1 ∷ []) (# 3) ∷ [])) (infeasible (counts 0 0 0 0 1))
     -- 8. 3u + w ≤ 10: rewritten
@@ -205,7 +205,7 @@ cases =
     (done
     (record {
       counts = counts 0 0 0 1 2;
-      lower = -0f ∷ -0f ∷ [];
+      lower = # 0 ∷ # 0 ∷ [];
       upper = # 1 ∷ # 8 ∷ [];
       emitted = rewritten_row 0 (bits 0x4020_0000_8637_bd7c) 0 2 ∷ [];
       terms = term 0 (bits 0x3ff0_0004_31bd_ebe0) ∷ term 1 (bits 0x3ff0_0000_0000_0000) ∷ [];
@@ -226,7 +226,7 @@ cases =
 
 -- to unfold this is to unfold all that its line names: every definition that presolve comes to
 unfoldable pub everything : Unit {0}
-unfolding neg add sub mul div lt eq le round of_int of_bits to_bits is_nan ne mags gap prev choose is_finite is_infinite abs maxf minf trunc_of away_of floor ceil
+unfolding neg add sub mul div lt eq le round of_int of_bits to_bits is_nan ne mags gap prev choose is_finite is_infinite abs maxf minf trunc_of away_of plus_zero floor ceil
     next_up next_down of_count double.two_sum double.split double.two_product double.from double.plus double.plus_product double.value double.rounded row_tolerance
     bound_tolerance outside slack_min slack_max trivial_verdict slack_margin slack_tol less_term implied_from implied_slack says_true violated zip_terms model·from upto
     nnz written op_of rhs_of is_int_domain is_mip is_int as_written rhs_mag coeff_in or_else coeff_of range_min range_max has has_term fixed drop_row budget bound_tol trivial

@@ -31,17 +31,17 @@ priced ox oy ls =
 unfoldable pub both_fall : Case
 both_fall =
     case (priced (# 1) (# 2) (is_le (1 · 0 ∷ 1 · 1 ∷ []) (# 7) ∷ []))
-    (done (record { counts = counts 1 0 2 0 2; lower = -0f ∷ -0f ∷ []; upper = -0f ∷ -0f ∷ []; emitted = []; terms = []; kept = 0 ∷ []; flag = true }))
+    (done (record { counts = counts 1 0 2 0 2; lower = # 0 ∷ # 0 ∷ []; upper = # 0 ∷ # 0 ∷ []; emitted = []; terms = []; kept = 0 ∷ []; flag = true }))
 
 -- least x + 2y, x + y ≥ 3: each is kept from falling by its term
 unfoldable pub neither_falls : Case
 neither_falls =
     case (priced (# 1) (# 2) (is_ge (1 · 0 ∷ 1 · 1 ∷ []) (# 3) ∷ []))
-    (done (record { counts = counts 0 0 0 0 1; lower = -0f ∷ -0f ∷ []; upper = # 5 ∷ # 5 ∷ []; emitted = written_row 0 (# 3) 0 2 ∷ []; terms = []; kept = []; flag = false }))
+    (done (record { counts = counts 0 0 0 0 1; lower = # 0 ∷ # 0 ∷ []; upper = # 5 ∷ # 5 ∷ []; emitted = written_row 0 (# 3) 0 2 ∷ []; terms = []; kept = []; flag = false }))
 
 -- least -x + y, x + y ≥ 3: x rises, so the row goes, and in the next round y falls
 unfoldable pub five_and_none : Reduced
-five_and_none = record { counts = counts 1 0 2 0 3; lower = # 5 ∷ -0f ∷ []; upper = # 5 ∷ -0f ∷ []; emitted = []; terms = []; kept = 0 ∷ []; flag = true }
+five_and_none = record { counts = counts 1 0 2 0 3; lower = # 5 ∷ # 0 ∷ []; upper = # 5 ∷ # 0 ∷ []; emitted = []; terms = []; kept = 0 ∷ []; flag = true }
 
 unfoldable pub rise_then_fall : Case
 rise_then_fall = case (priced (neg (# 1)) (# 1) (is_ge (1 · 0 ∷ 1 · 1 ∷ []) (# 3) ∷ [])) (done five_and_none)
@@ -50,7 +50,7 @@ rise_then_fall = case (priced (neg (# 1)) (# 1) (is_ge (1 · 0 ∷ 1 · 1 ∷ []
 unfoldable pub either_way : Case
 either_way =
     case (priced -0f -0f [])
-    (done (record { counts = counts 0 0 2 0 0; lower = -0f ∷ -0f ∷ []; upper = -0f ∷ -0f ∷ []; emitted = []; terms = []; kept = []; flag = true }))
+    (done (record { counts = counts 0 0 2 0 0; lower = # 0 ∷ # 0 ∷ []; upper = # 0 ∷ # 0 ∷ []; emitted = []; terms = []; kept = []; flag = true }))
 
 abbrev pub dual_cases : List Case
 dual_cases = both_fall ∷ neither_falls ∷ rise_then_fall ∷ either_way ∷ []

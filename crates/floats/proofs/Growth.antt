@@ -1,5 +1,5 @@
 -- LAWS OF ORDER that proofs cite by themselves: a sum with what is not negative does not fall, a difference does not rise, floor and ceil leave a whole number, a tolerance is below 1.
-use Rattle.std.specs.Prelude.{◌≡◌, ◌⊎◌, Bool, ℤ, pos, ◌+ℤ◌, ◌-ℤ◌, Float}
+use Rattle.std.specs.Prelude.{◌≡◌, zero, suc, ◌⊎◌, Bool, ℤ, pos, ◌+ℤ◌, ◌-ℤ◌, Float}
 use Rattle.std.proofs.Math.Path.{refl}
 use Rattle.std.proofs.Common.{sym, ap, ◌∙◌, subst, inl, inr, arith, true≢false}
 use Rattle.std.proofs.Math.Bool.{true, false}
@@ -9,14 +9,14 @@ use Rattle.floats.specs.Zed.{◌⊑◌, add_parts, sub_parts}
 use Rattle.floats.specs.Value.{units, Num}
 use Rattle.floats.specs.Order.{num_real, rank, rank_num, ⊑→le}
 use Rattle.floats.specs.Ranks.{sum_result, sub_result, held_of}
-use Rattle.floats.proofs.Meaning.{floor_own, ceil_mirror}
+use Rattle.floats.proofs.Meaning.{floor_plus, ceil_mirror}
 use Rattle.floats.specs.Points.{Whole, Held, ◌≼◌, ◌≺◌}
 use Rattle.floats.proofs.Points.{to_units}
 use Rattle.floats.proofs.Compare.{le_lt_trans}
 use Rattle.floats.specs.WholeRounding.{⅜f, NonNeg, Tol}
 use Rattle.floats.proofs.WholeRounding.{nonneg_rank, nonneg_cases, inf_real, num_fin, inf_inf, num_minus, minus_minus, top, bottom, sum_above, sub_below}
 use Rattle.floats.proofs.Quotients.{neg_is}
-use Rattle.floats.specs.Num.{◌⊕◌, ◌⊖◌, 1f, floor, ceil}
+use Rattle.floats.specs.Num.{◌⊕◌, ◌⊖◌, 1f, plus_zero, floor, ceil}
 
 -- ---- x ⊕ r ≥ x and x ⊖ r ≤ x, for a number x and r from 0 to +∞
 pub add_grows : {x r : Float} → Num x → NonNeg r → x ≼ (x ⊕ r)
@@ -99,19 +99,20 @@ sub_shrinks_at (fin s m e) r f h k = sub_shrinks (tt, f.fits) h
 pub sub_shrinks_real : {x r : Float} → Held x → NonNeg r → is_nan (x ⊖ r) ≡ false → (x ⊖ r) ≼ x
 sub_shrinks_real {x} {r} f h k = sub_shrinks_at x r f h k
 
--- ---- floor and ceil leave a whole number
-pub floor_fixes : {x : Float} → Whole x → floor x ≡ x
-floor_fixes {x} w = sym (floor_own x _ (to_units x w))
+-- ---- floor and ceil leave a whole number, but for a zero's sign
+pub floor_fixes : {x : Float} → Whole x → floor x ≡ plus_zero x
+floor_fixes {x} w = floor_plus x _ (to_units x w)
 
-pub ceil_fixes : {x : Float} → Whole x → ceil x ≡ x
-ceil_fixes {x} w = ceil_mirror x ∙ ap neg (floor_fixes (neg_is x _ (to_units x w)).whole) ∙ back x
+pub ceil_fixes : {x : Float} → Whole x → ceil x ≡ plus_zero x
+ceil_fixes {x} w = ceil_mirror x ∙ ap (λ (z : Float). plus_zero (neg z)) (floor_fixes (neg_is x _ (to_units x w)).whole) ∙ back x
   where
-    back : (x : Float) → neg (neg x) ≡ x
-    back nan = unfold neg in refl
-    back (inf true) = unfold neg in refl
-    back (inf false) = unfold neg in refl
-    back (fin true m e) = unfold neg in refl
-    back (fin false m e) = unfold neg in refl
+    back : (x : Float) → plus_zero (neg (plus_zero (neg x))) ≡ plus_zero x
+    back nan = unfold plus_zero neg in refl
+    back (inf true) = unfold plus_zero neg in refl
+    back (inf false) = unfold plus_zero neg in refl
+    back (fin s zero e) = unfold plus_zero neg in refl
+    back (fin true (suc m) e) = unfold plus_zero neg in refl
+    back (fin false (suc m) e) = unfold plus_zero neg in refl
 
 -- ---- a tolerance is from 0 to below 1
 pub tol_below_one : {t : Float} → Tol t → t ≺ 1f

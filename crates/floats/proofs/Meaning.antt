@@ -1,29 +1,33 @@
 -- WHAT THE HELPERS ARE BY VALUE, after IEEE 754-2019:
--- floor     5.9 roundToIntegralTowardNegative, of a number x: the whole number r with r ≤ x < r + 1, so the greatest not above x; an infinity and a NaN stay, and x's sign stays.
---           `ceil`, TowardPositive, likewise: the least whole number not below x. Each is the mirror of the other;
+-- floor     5.9 roundToIntegralTowardNegative, of a number x: the whole number r with r ≤ x < r + 1, so the greatest not above x, and +0 where it is a zero; an infinity and a NaN
+--           stay. `ceil`, TowardPositive, likewise: the least whole number not below x. Each is the mirror of the other, but for a zero's sign;
 -- next_up    5.3.1, of all but +∞ and NaN: above x, and no float lies between; `next_down` likewise;
 -- maxf, minf   9.6, a NaN loses to a number, and where neither is above the other, two zeros for one, the first stays. `Extremes` has more of these.
 use Rattle.std.specs.Prelude.{◌≡◌, ℕ, zero, suc, ◌+◌, ◌-◌, ◌*◌, ◌/◌, ◌^◌, ◌≤◌, ◌<◌, Bool, not, ◌||◌, T, leb, ℤ, pos, ◌+ℤ◌}
 use Rattle.std.proofs.Math.Path.{refl, ap}
 use Rattle.std.proofs.Common.{sym, ◌∙◌, subst, inl, inr, arith, leb→le, pow_pos}
-use native.Mathlib.Nat.{le_refl, le_of_lt, lt_of_le_of_lt, not-le_of_lt, eq-or-lt_of_le, mul-pos, zero-lt-suc, lt_of_mul-lt-mul_right, mul-le-mul_right, div-mul-le_self, lt-div-mul-add}
+use native.Mathlib.Nat.{le_refl, le_trans, le_of_eq, le_of_lt, lt_irrefl, lt_of_le_of_lt, not-le_of_lt, eq-or-lt_of_le, mul-pos, zero-lt-suc, lt_of_mul-lt-mul_right, mul-le-mul_right, div-mul-le_self, lt-div-mul-add}
 use Rattle.std.proofs.Math.Bool.{true, false, cond}
 use Rattle.std.proofs.lemmas.Bool.{false≢true}
-use Rattle.std.proofs.Math.Dec.{nleb→lt, eqb-suc-zero, lit<, lit≤}
+use Rattle.std.proofs.Math.Dec.{nleb→lt, eqb→eq, eqb-suc-zero, lit<, lit≤}
 use Rattle.std.proofs.Math.IntN.{neg_ℤ}
-use lib.Ieee.{Float, nan, inf, fin, binary64, up, down, fits, is_nan, neg, round, lt, le}
-use Rattle.std.specs.Float.Ieee.Fits.{up_pos}
+use lib.Ieee.{Float, nan, inf, fin, binary64, up, down, fits, is_nan, neg, add, sub, of_bits, round, lt, le}
+use Rattle.std.specs.Float.Ieee.Fits.{up_pos, neg-fits}
+use Rattle.std.specs.Float.Ieee.Scale.{finite}
 use Rattle.std.specs.Float.Ieee.Positive.{first_pos}
 use Rattle.floats.specs.Near.{Rep, rep_pow}
 use Rattle.floats.specs.Zed.{P, N, A, ◌⊑◌, ◌⊏◌, side, ext, P_neg, N_neg, add_parts}
-use Rattle.floats.specs.Value.{mags, sign, units, signed, size_of, Num, TOP, mags_rep, mags_val, mags_under}
+use Rattle.floats.specs.Signed.{rz, rz_fix}
+use Rattle.floats.specs.Value.{mags, sign, units, signed, size_of, Num, TOP, mags_is, mags_rep, mags_val, mags_under, add_units, add_num, sum_finite_lem, units_rep}
+use Rattle.floats.specs.Product.{units_is}
 use Rattle.floats.specs.Norm.{R, Parts, same, R_exact, own_parts, parts_units, neg_round}
 use Rattle.floats.specs.Next.{gap, prev, next_le, next_rep, before}
 use Rattle.floats.specs.Whole.{sc, P_sc, N_sc, Is}
-use Rattle.floats.specs.Num.{choose, sign_of, trunc_of, away_of, floor, ceil, next_up, next_down, maxf, minf}
+use Rattle.floats.specs.Num.{choose, ◌⊖◌, 0f, sign_of, trunc_of, away_of, plus_zero, floor, ceil, next_up, next_down, maxf, minf}
 use Rattle.floats.specs.Integral.{trunc_parts, away_parts}
 use Rattle.floats.specs.Order.{Real, nan_real, num_real, rank, rank_num, rank_rep, mags_top, lt→⊏, ⊏→lt, ⊑→le, neg_real, rank_neg}
 use Rattle.floats.specs.Meaning.{BeforeOf, CeilOf, FloorOf, Has, NextOf}
+use Rattle.floats.proofs.Facts.{flat, zero_num, zero_parts}
 
 -- k units of 1.0 with a sign, as an integer
 pub signed_whole : (s : Bool) (k L : ℕ) → signed s (k * L) ≡ sc L (signed s k)
@@ -55,13 +59,84 @@ sign_is nan = refl
 sign_is (inf s) = refl
 sign_is (fin s m e) = refl
 
-pub pick_floor : (x : Float) (s : Bool) → sign x ≡ s → floor x ≡ cond s (away_of x) (trunc_of x)
-unfolding floor
-pick_floor x s e = ap (λ (b : Bool). cond b (away_of x) (trunc_of x)) (sign_is x ∙ e)
+-- ---- a zero without its sign: the same number, and no -0
+pub plus_num : (x : Float) → Num x → Num (plus_zero x)
+unfolding plus_zero fits
+plus_num nan h = absurd h.0
+plus_num (inf s) h = absurd h.0
+plus_num (fin s zero e) h = (tt, h.1)
+plus_num (fin s (suc m) e) h = h
 
-pub pick_ceil : (x : Float) (s : Bool) → sign x ≡ s → ceil x ≡ cond s (trunc_of x) (away_of x)
+pub mags_pos : (s : Bool) (m : ℕ) (e : ℤ) → T (fits binary64 (fin s (suc m) e)) → 0 < mags (fin s (suc m) e)
+mags_pos s m e f = first_pos (mags (fin s (suc m) e)) (down e)
+    (subst (λ (z : ℕ). 0 < z) (mags_val s (suc m) e f) (mul-pos (mul-pos (zero-lt-suc m) (up_pos e)) (pow_pos 1074)))
+
+pub no_zero : (s : Bool) (m : ℕ) (e : ℤ) → T (fits binary64 (fin s (suc m) e)) → units (fin s (suc m) e) ≡ pos 0 → ⊥
+no_zero s m e f z = lt_irrefl 0 (subst (λ (n : ℕ). 0 < n) (sym (size_of (fin s (suc m) e)) ∙ ap A z) (mags_pos s m e f))
+
+pub plus_sign : (x : Float) → Num x → units (plus_zero x) ≡ pos 0 → sign (plus_zero x) ≡ false
+unfolding plus_zero sign
+plus_sign nan h z = absurd h.0
+plus_sign (inf s) h z = absurd h.0
+plus_sign (fin s zero e) h z = refl
+plus_sign (fin s (suc m) e) h z = absurd (no_zero s m e h.1 z)
+
+pub plus_units : (x : Float) → units (plus_zero x) ≡ units x
+unfolding plus_zero units sign
+plus_units nan = refl
+plus_units (inf s) = refl
+plus_units (fin false zero e) = refl
+plus_units (fin true zero e) = ap pos (none false) ∙ ap (λ (n : ℕ). neg_ℤ (pos n)) (sym (none true))
+  where
+    none : (s : Bool) → mags (fin s zero e) ≡ 0
+    none s = mags_is s zero e 0 (omega arith)
+plus_units (fin s (suc m) e) = refl
+
+pub plus_is : (r : Float) (k : ℤ) → Is r k → Is (plus_zero r) k
+plus_is r k i = record { num = plus_num r i.num; val = plus_units r ∙ i.val }
+
+-- equal numbers are one float, where neither is -0
+pub same_units : (x y : Float) → Num x → Num y → (units x ≡ pos 0 → sign x ≡ false) → (units y ≡ pos 0 → sign y ≡ false) → units x ≡ units y → x ≡ y
+same_units x y a b p q e = same x y a b (go (sign x) (sign y) refl refl) (sym (size_of x) ∙ ap A e ∙ size_of y)
+  where
+    none : (u v : ℤ) (X Y : ℕ) → u ≡ neg_ℤ (pos X) → v ≡ pos Y → u ≡ v → u ≡ pos 0
+    none u v X Y p q e = ext u (pos 0) (omega (arith, ap P p, ap N p, ap P q, ap N q, ap P e, ap N e, P_neg (pos X), N_neg (pos X)))
+
+    part : (x : Float) (s : Bool) → sign x ≡ s → units x ≡ signed s (mags x)
+    part x s e = units_is x ∙ ap (λ (b : Bool). signed b (mags x)) e
+
+    go : (s t : Bool) → sign x ≡ s → sign y ≡ t → sign x ≡ sign y
+    go true true f g = f ∙ sym g
+    go false false f g = f ∙ sym g
+    go true false f g = p (none (units x) (units y) (mags x) (mags y) (part x true f) (part y false g) e) ∙ sym g
+    go false true f g = f ∙ sym (q (none (units y) (units x) (mags y) (mags x) (part y true g) (part x false f) (sym e)))
+
+-- ---- floor and ceil
+pub pick_floor : (x : Float) (s : Bool) → sign x ≡ s → floor x ≡ plus_zero (cond s (away_of x) (trunc_of x))
+unfolding floor
+pick_floor x s e = ap (λ (b : Bool). plus_zero (cond b (away_of x) (trunc_of x))) (sign_is x ∙ e)
+
+pub pick_ceil : (x : Float) (s : Bool) → sign x ≡ s → ceil x ≡ plus_zero (cond s (trunc_of x) (away_of x))
 unfolding ceil
-pick_ceil x s e = ap (λ (b : Bool). cond b (trunc_of x) (away_of x)) (sign_is x ∙ e)
+pick_ceil x s e = ap (λ (b : Bool). plus_zero (cond b (trunc_of x) (away_of x))) (sign_is x ∙ e)
+
+floor_of : (x r : Float) (k : ℤ) → Is r k → units r ⊑ units x → units x ⊏ units r +ℤ pos (2 ^ 1074) → FloorOf x (plus_zero r)
+floor_of x r k i l h = record {
+  k = k;
+  is = plus_is r k i;
+  plus = plus_sign r i.num;
+  low = subst (λ (u : ℤ). u ⊑ units x) (sym (plus_units r)) l;
+  high = subst (λ (u : ℤ). units x ⊏ u +ℤ pos (2 ^ 1074)) (sym (plus_units r)) h;
+}
+
+ceil_of : (x r : Float) (k : ℤ) → Is r k → units x ⊑ units r → units r ⊏ units x +ℤ pos (2 ^ 1074) → CeilOf x (plus_zero r)
+ceil_of x r k i h l = record {
+  k = k;
+  is = plus_is r k i;
+  plus = plus_sign r i.num;
+  high = subst (λ (u : ℤ). units x ⊑ u) (sym (plus_units r)) h;
+  low = subst (λ (u : ℤ). u ⊏ units x +ℤ pos (2 ^ 1074)) (sym (plus_units r)) l;
+}
 
 pub floor_value : (x : Float) → Num x → FloorOf x (floor x)
 floor_value x h = go (sign x) (own_parts x h)
@@ -72,13 +147,13 @@ floor_value x h = go (sign x) (own_parts x h)
         let k = mags x / 2 ^ 1074 in
         let o = down_order (units x) (units (trunc_of x)) (mags x) (k * 2 ^ 1074) (2 ^ 1074) (parts_units x false (mags x) p)
         (parts_units (trunc_of x) false (k * 2 ^ 1074) q) (div-mul-le_self (mags x) (2 ^ 1074)) (lt-div-mul-add (pow_pos 1074)) in
-        subst (FloorOf x) (sym (pick_floor x false p.sgn)) (record { k = pos k; is = whole_is (trunc_of x) false k q; signs = q.sgn ∙ sym p.sgn; low = o.0; high = o.1 })
+        subst (FloorOf x) (sym (pick_floor x false p.sgn)) (floor_of x (trunc_of x) (pos k) (whole_is (trunc_of x) false k q) o.0 o.1)
     go true p =
         let a = away_parts x true (mags x) p in
         let o = flip_down (units x) (units (away_of x)) (mags x) (a.k * 2 ^ 1074) (2 ^ 1074) (parts_units x true (mags x) p)
         (parts_units (away_of x) true (a.k * 2 ^ 1074) a.parts) a.low a.high in
         subst (FloorOf x) (sym (pick_floor x true p.sgn))
-        (record { k = signed true a.k; is = whole_is (away_of x) true a.k a.parts; signs = a.parts.sgn ∙ sym p.sgn; low = o.0; high = o.1 })
+        (floor_of x (away_of x) (signed true a.k) (whole_is (away_of x) true a.k a.parts) o.0 o.1)
 
 pub ceil_value : (x : Float) → Num x → CeilOf x (ceil x)
 ceil_value x h = go (sign x) (own_parts x h)
@@ -88,49 +163,94 @@ ceil_value x h = go (sign x) (own_parts x h)
         let a = away_parts x false (mags x) p in
         let o = up_order (units x) (units (away_of x)) (mags x) (a.k * 2 ^ 1074) (2 ^ 1074) (parts_units x false (mags x) p)
         (parts_units (away_of x) false (a.k * 2 ^ 1074) a.parts) a.low a.high in
-        subst (CeilOf x) (sym (pick_ceil x false p.sgn)) (record { k = pos a.k; is = whole_is (away_of x) false a.k a.parts; signs = a.parts.sgn ∙ sym p.sgn; high = o.0; low = o.1 })
+        subst (CeilOf x) (sym (pick_ceil x false p.sgn)) (ceil_of x (away_of x) (pos a.k) (whole_is (away_of x) false a.k a.parts) o.0 o.1)
     go true p =
         let q = trunc_parts x true (mags x) p in
         let k = mags x / 2 ^ 1074 in
         let o = flip_down (units (trunc_of x)) (units x) (k * 2 ^ 1074) (mags x) (2 ^ 1074) (parts_units (trunc_of x) true (k * 2 ^ 1074) q)
         (parts_units x true (mags x) p) (div-mul-le_self (mags x) (2 ^ 1074)) (lt-div-mul-add (pow_pos 1074)) in
-        subst (CeilOf x) (sym (pick_ceil x true p.sgn)) (record { k = signed true k; is = whole_is (trunc_of x) true k q; signs = q.sgn ∙ sym p.sgn; high = o.0; low = o.1 })
+        subst (CeilOf x) (sym (pick_ceil x true p.sgn)) (ceil_of x (trunc_of x) (signed true k) (whole_is (trunc_of x) true k q) o.0 o.1)
 
 -- what is not a number stays
 pub floor_nan : floor nan ≡ nan
-unfolding floor
+unfolding floor plus_zero
 floor_nan = refl
 
 pub floor_inf : (s : Bool) → floor (inf s) ≡ inf s
-unfolding floor
+unfolding floor plus_zero
 floor_inf true = refl
 floor_inf false = refl
 
 pub ceil_nan : ceil nan ≡ nan
-unfolding ceil
+unfolding ceil plus_zero
 ceil_nan = refl
 
 pub ceil_inf : (s : Bool) → ceil (inf s) ≡ inf s
-unfolding ceil
+unfolding ceil plus_zero
 ceil_inf true = refl
 ceil_inf false = refl
 
--- the mirror: ceil x is -floor(-x), and floor x is -ceil(-x), of every float
-pub ceil_mirror : (x : Float) → ceil x ≡ neg (floor (neg x))
-unfolding floor ceil neg
-ceil_mirror nan = refl
-ceil_mirror (inf true) = refl
-ceil_mirror (inf false) = refl
-ceil_mirror (fin true m e) = sym (neg_round false (m * up e / down e) 1)
-ceil_mirror (fin false m e) = sym (neg_round true ((m * up e + (down e - 1)) / down e) 1)
+-- the mirror: ceil x is -floor(-x), and floor x is -ceil(-x), of every float, but for a zero's sign
+turned_zero : (x : Float) → plus_zero (neg (plus_zero x)) ≡ plus_zero (neg x)
+unfolding plus_zero neg
+turned_zero nan = refl
+turned_zero (inf s) = refl
+turned_zero (fin s zero e) = refl
+turned_zero (fin s (suc m) e) = refl
 
-pub floor_mirror : (x : Float) → floor x ≡ neg (ceil (neg x))
+turned : (s : Bool) (n : ℕ) → plus_zero (round binary64 (not s) n 1) ≡ plus_zero (neg (plus_zero (round binary64 s n 1)))
+turned s n = ap plus_zero (sym (neg_round s n 1)) ∙ sym (turned_zero (round binary64 s n 1))
+
+pub ceil_mirror : (x : Float) → ceil x ≡ plus_zero (neg (floor (neg x)))
 unfolding floor ceil neg
-floor_mirror nan = refl
-floor_mirror (inf true) = refl
-floor_mirror (inf false) = refl
-floor_mirror (fin true m e) = sym (neg_round false ((m * up e + (down e - 1)) / down e) 1)
-floor_mirror (fin false m e) = sym (neg_round true (m * up e / down e) 1)
+ceil_mirror nan = unfold plus_zero in refl
+ceil_mirror (inf true) = unfold plus_zero in refl
+ceil_mirror (inf false) = unfold plus_zero in refl
+ceil_mirror (fin true m e) = turned false (m * up e / down e)
+ceil_mirror (fin false m e) = turned true ((m * up e + (down e - 1)) / down e)
+
+pub floor_mirror : (x : Float) → floor x ≡ plus_zero (neg (ceil (neg x)))
+unfolding floor ceil neg
+floor_mirror nan = unfold plus_zero in refl
+floor_mirror (inf true) = unfold plus_zero in refl
+floor_mirror (inf false) = unfold plus_zero in refl
+floor_mirror (fin true m e) = turned false ((m * up e + (down e - 1)) / down e)
+floor_mirror (fin false m e) = turned true (m * up e / down e)
+
+-- a difference from 0.0 turns a sign so: of equal numbers it is +0
+pub minus : (y : Float) → T (fits binary64 y) → 0f ⊖ y ≡ plus_zero (neg y)
+minus nan f = unfold plus_zero of_bits sub add neg in refl
+minus (inf true) f = unfold plus_zero of_bits sub add neg in refl
+minus (inf false) f = unfold plus_zero of_bits sub add neg in refl
+minus (fin s zero e) f = subst (λ (d : ℤ). 0f ⊖ fin s zero d ≡ plus_zero (neg (fin s zero d))) (sym (flat e (eqb→eq (up e * down e) 1 (unfold fits in f)))) (zeros s)
+  where
+    zeros : (s : Bool) → 0f ⊖ fin s zero (pos 0) ≡ plus_zero (neg (fin s zero (pos 0)))
+    zeros true = unfold plus_zero of_bits sub add neg in refl
+    zeros false = unfold plus_zero of_bits sub add neg in refl
+minus (fin s (suc m) e) f =
+    let y = fin s (suc m) e in
+    let z = fin (not s) (suc m) e in
+    let nz : Num z = (tt, unfold fits in f) in
+    let u : units 0f +ℤ units z ≡ units z = ext (units 0f +ℤ units z) (units z) (from (units 0f) (units z) (parts_units 0f false 0 zero_parts)) in
+    let fn : T (finite (add binary64 0f z)) = sum_finite_lem 0f z zero_num nz
+    (subst (λ (v : ℤ). A v ≤ TOP) (sym u) (le_trans (le_of_eq (size_of z)) (mags_top z nz))) in
+    let v : units (add binary64 0f z) ≡ units z = add_units 0f z zero_num nz fn ∙ ap rz u ∙ rz_fix (units z) (units_rep z nz) in
+    by_neg (same_units (add binary64 0f z) z (add_num 0f z fn) nz (λ e0. absurd (no_zero (not s) m e nz.1 (sym v ∙ e0))) (λ e0. absurd (no_zero (not s) m e nz.1 e0)) v)
+  where
+    from : (o v : ℤ) → o ≡ pos 0 → P (o +ℤ v) + N v ≡ P v + N (o +ℤ v)
+    from o v p = omega (arith, add_parts o v, ap P p, ap N p)
+
+    by_neg : add binary64 0f (fin (not s) (suc m) e) ≡ fin (not s) (suc m) e → 0f ⊖ fin s (suc m) e ≡ plus_zero (neg (fin s (suc m) e))
+    by_neg h = unfold plus_zero sub neg in h
+
+-- so that is how `ceil` is computed
+pub ceil_code : (x : Float) → T (fits binary64 x) → 0f ⊖ floor (neg x) ≡ ceil x
+ceil_code x f = minus (floor (neg x)) (floor_fits (neg x) (neg-fits binary64 x f)) ∙ sym (ceil_mirror x)
+  where
+    floor_fits : (x : Float) → T (fits binary64 x) → T (fits binary64 (floor x))
+    floor_fits nan f = subst (λ (z : Float). T (fits binary64 z)) (sym floor_nan) f
+    floor_fits (inf s) f = subst (λ (z : Float). T (fits binary64 z)) (sym (floor_inf s)) f
+    floor_fits (fin s m e) f = (floor_value (fin s m e) (tt, f)).is.num.1
 
 -- whole numbers that are less than one apart in one direction are in order
 pub tight : (L : ℕ) (k l u v : ℤ) → u ≡ sc L k → v ≡ sc L l → u ⊏ v +ℤ pos L → k ⊑ l
@@ -170,24 +290,29 @@ ceil_least x y l h i o =
     over : (r x y : ℤ) (L : ℕ) → r ⊏ x +ℤ pos L → x ⊑ y → r ⊏ y +ℤ pos L
     over r x y L h k = omega (arith, add_parts x (pos L), add_parts y (pos L))
 
--- THE ONLY ONE: a whole number r with r ≤ x < r + 1 and the sign of x is its floor
-pub floor_only : (x r : Float) (k : ℤ) → Num x → Is r k → sign r ≡ sign x → units r ⊑ units x → units x ⊏ units r +ℤ pos (2 ^ 1074) → r ≡ floor x
+-- THE ONLY ONE: a whole number r with r ≤ x < r + 1, and no -0, is the floor of x
+pub floor_only : (x r : Float) (k : ℤ) → Num x → Is r k → (units r ≡ pos 0 → sign r ≡ false) → units r ⊑ units x → units x ⊏ units r +ℤ pos (2 ^ 1074) → r ≡ floor x
 floor_only x r k h i s o l =
     let F = floor_value x h in
     let down = (floor_greatest x r k h i o).1 in
     let g = tight (2 ^ 1074) F.k k (units (floor x)) (units r) F.is.val i.val (between (units (floor x)) (units x) (units r +ℤ pos (2 ^ 1074)) F.low l) in
     let up : units (floor x) ⊑ units r = subst (λ (z : ℤ). z ⊑ units r) (sym F.is.val) (subst (λ (z : ℤ). sc (2 ^ 1074) F.k ⊑ z) (sym i.val) (sc_mono (2 ^ 1074) F.k k g)) in
-    same r (floor x) i.num F.is.num (s ∙ sym F.signs) (sym (size_of r) ∙ ap A (both (units r) (units (floor x)) down up) ∙ size_of (floor x))
+    same_units r (floor x) i.num F.is.num s F.plus (both (units r) (units (floor x)) down up)
   where
     both : (u v : ℤ) → u ⊑ v → v ⊑ u → u ≡ v
     both u v h k = ext u v (omega arith)
 
--- so a whole number is its own
-pub floor_own : (x : Float) (k : ℤ) → Is x k → x ≡ floor x
-floor_own x k i = floor_only x x k i.num i refl (le_refl (P (units x) + N (units x))) (less_one (units x) (2 ^ 1074) (pow_pos 1074))
-  where
-    less_one : (u : ℤ) (L : ℕ) → 0 < L → u ⊏ u +ℤ pos L
-    less_one u L h = omega (arith, add_parts u (pos L))
+less_one : (u : ℤ) (L : ℕ) → 0 < L → u ⊏ u +ℤ pos L
+less_one u L h = omega (arith, add_parts u (pos L))
+
+-- so a whole number is its own, but for a zero's sign
+pub floor_own : (x : Float) (k : ℤ) → Is x k → (units x ≡ pos 0 → sign x ≡ false) → x ≡ floor x
+floor_own x k i z = floor_only x x k i.num i z (le_refl (P (units x) + N (units x))) (less_one (units x) (2 ^ 1074) (pow_pos 1074))
+
+pub floor_plus : (x : Float) (k : ℤ) → Is x k → floor x ≡ plus_zero x
+floor_plus x k i = sym (floor_only x (plus_zero x) k i.num (plus_is x k i) (plus_sign x i.num)
+    (subst (λ (u : ℤ). u ⊑ units x) (sym (plus_units x)) (le_refl (P (units x) + N (units x))))
+    (subst (λ (u : ℤ). units x ⊏ u +ℤ pos (2 ^ 1074)) (sym (plus_units x)) (less_one (units x) (2 ^ 1074) (pow_pos 1074))))
 
 -- n units, n held and up to 2 ^ 2098: there it is the infinity
 pub has_R : (n : ℕ) → Rep n → n ≤ 2 ^ 2098 → Has (R false n) (pos n)

@@ -1,14 +1,14 @@
 -- A BOUND THAT WOULD NOT TIGHTEN DOES NOT TIGHTEN EITHER AFTER IT IS RELAXED by something that is not below zero: q plus it is at or above q, q less it is at
 -- or below q, and floor and ceil keep the order.
 -- "Not below zero" is the test's own answer, so a NaN is not below it; where one comes in, the result is a NaN, and no test against that holds.
-use Rattle.std.specs.Prelude.{◌≡◌, ◌⊎◌, ℕ, ◌+◌, ◌*◌, ◌^◌, ◌<◌, min, Bool, true, not, ◌||◌, cond, T, ltb, eqb, ℤ, pos, neg_ℤ, ◌-ℤ◌, Float}
+use Rattle.std.specs.Prelude.{◌≡◌, ◌⊎◌, ℕ, zero, suc, ◌+◌, ◌*◌, ◌^◌, ◌<◌, min, Bool, true, not, ◌||◌, cond, T, ltb, eqb, ℤ, pos, neg_ℤ, ◌-ℤ◌, Float}
 use Rattle.std.proofs.Math.Path.{refl, ap}
 use Rattle.std.proofs.Common.{sym, ◌∙◌, subst, inl, inr, zero-le, le_of_eq, lt_of_lt_of_le, not-le_of_lt}
 use Rattle.std.proofs.Common.{eq-zero-or-pos, zero-mul, mul-zero, mul-pos, mul_comm, mul-le-mul_right, arith, ltb→lt, lt→ltb, lit≤}
 use Rattle.std.proofs.Math.Nat as Nat
 use Rattle.std.proofs.Math.Bool.{false}
 use Rattle.std.specs.Float.{nan, fin, binary64}
-use Rattle.std.specs.Float.Ieee.{inf, up, down, unlike, is_nan, add, sub, mul, div, neg, round, lt, le, eq, of_bits}
+use Rattle.std.specs.Float.Ieee.{inf, up, down, fits, unlike, is_nan, add, sub, mul, div, neg, round, lt, le, eq, of_bits}
 use Rattle.std.specs.Float.Ieee.Fits.{up_pos, down_pos}
 use Rattle.floats.specs.Near.{near, near_fix}
 use Rattle.floats.specs.Zed.{P, N, ◌⊑◌, side, ext, P_neg, N_neg, sub_parts}
@@ -16,7 +16,7 @@ use Rattle.floats.specs.Signed.{rep_zero}
 use Rattle.floats.specs.Value.{units, signed, Num}
 use Rattle.floats.specs.Norm.{parts_units}
 use Rattle.floats.specs.Order.{Real, num_real, le_real, rank, rank_num, le→⊑, ⊑→le, nlt→⊑, neg_real, rank_neg}
-use Rattle.floats.proofs.Meaning.{floor_value, floor_nan, floor_inf, ceil_nan, ceil_mirror, minf_nan}
+use Rattle.floats.proofs.Meaning.{plus_units, floor_value, floor_nan, floor_inf, ceil_nan, ceil_mirror, minf_nan}
 use Rattle.floats.specs.Ranks as K
 use Rattle.floats.specs.Ranks.{sub_result, mul_result, round_rank, held_of}
 use Rattle.floats.specs.Points.{◌≼◌, Held}
@@ -28,7 +28,7 @@ use Rattle.floats.proofs.WholeRounding.{half_parts, zero_rank, zero_held, real_0
 use Rattle.floats.proofs.WholeRounding.{nonneg_cases, cases, inf_real, top, bottom, sub_above, floor_keeps, floor_real, ceil_real}
 use Rattle.floats.proofs.Slacks.{nonneg_add, product_most, pos_parts}
 use Rattle.floats.proofs.Extremes.{minf_value, no_lt}
-use Rattle.floats.specs.Num.{◌⊕◌, ◌⊖◌, ◌⊗◌, ◌⊘◌, 0f, ½f, abs, maxf, minf, choose, floor, ceil}
+use Rattle.floats.specs.Num.{◌⊕◌, ◌⊖◌, ◌⊗◌, ◌⊘◌, 0f, ½f, abs, maxf, minf, choose, plus_zero, floor, ceil}
 use Rattle.floats.specs.Relaxed.{NotNeg, Plus, Within}
 
 -- ---- what it is
@@ -122,12 +122,38 @@ turn x y rx ry o = record { le = ⊑→le (neg y) (neg x) (neg_real y ry) (neg_r
     at : (x y x' y' : ℤ) → x' ≡ neg_ℤ x → y' ≡ neg_ℤ y → x ⊑ y → y' ⊑ x'
     at x y x' y' p q h = omega (arith, ap P p, ap N p, ap P q, ap N q, P_neg x, N_neg x, P_neg y, N_neg y)
 
+-- nor does a zero's sign change it
+plus_real : (x : Float) → Real x → Real (plus_zero x)
+unfolding plus_zero
+plus_real nan r = r
+plus_real (inf s) r = r
+plus_real (fin s zero e) r = record { fit = unfold fits in r.fit; real = unfold is_nan in refl }
+plus_real (fin s (suc m) e) r = r
+
+plus_rank : (x : Float) → rank (plus_zero x) ≡ rank x
+plus_rank nan = unfold plus_zero in refl
+plus_rank (inf s) = unfold plus_zero in refl
+plus_rank (fin s m e) = both s m e (plus_units (fin s m e))
+  where
+    both : (s : Bool) (m : ℕ) (e : ℤ) → units (plus_zero (fin s m e)) ≡ units (fin s m e) → rank (plus_zero (fin s m e)) ≡ rank (fin s m e)
+    both s zero e h = unfold rank plus_zero in (unfold plus_zero in h)
+    both s (suc m) e h = unfold plus_zero in refl
+
+plus_mono : (x y : Float) → Real x → Real y → x ≼ y → plus_zero x ≼ plus_zero y
+plus_mono x y rx ry o = record {
+  le = ⊑→le (plus_zero x) (plus_zero y) (plus_real x rx) (plus_real y ry)
+      (subst (λ (z : ℤ). z ⊑ rank (plus_zero y)) (sym (plus_rank x)) (subst (λ (z : ℤ). rank x ⊑ z) (sym (plus_rank y)) (le→⊑ x y rx ry o.le)));
+}
+
 pub ceil_mono : (x y : Float) → Real x → Real y → x ≼ y → ceil x ≼ ceil y
 ceil_mono x y rx ry o =
     let a = neg_real x rx in
     let b = neg_real y ry in
-    subst (λ (z : Float). z ≼ ceil y) (sym (ceil_mirror x)) (subst (λ (z : Float). neg (floor (neg x)) ≼ z) (sym (ceil_mirror y))
-    (turn (floor (neg y)) (floor (neg x)) (real_floor (neg y) b) (real_floor (neg x) a) (floor_mono (neg y) (neg x) b a (turn x y rx ry o))))
+    let fx = real_floor (neg x) a in
+    let fy = real_floor (neg y) b in
+    subst (λ (z : Float). z ≼ ceil y) (sym (ceil_mirror x)) (subst (λ (z : Float). plus_zero (neg (floor (neg x))) ≼ z) (sym (ceil_mirror y))
+    (plus_mono (neg (floor (neg x))) (neg (floor (neg y))) (neg_real (floor (neg x)) fx) (neg_real (floor (neg y)) fy)
+    (turn (floor (neg y)) (floor (neg x)) fy fx (floor_mono (neg y) (neg x) b a (turn x y rx ry o)))))
 
 -- ---- an integer's upper bound that q does not pass is not passed where q is relaxed; and a lower bound
 pub floor_stays : (q t b : Float) → Held q → Held t → NotNeg t → le b (floor q) ≡ true → lt (floor (q ⊕ t)) b ≡ false

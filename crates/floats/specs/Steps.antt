@@ -2,7 +2,7 @@
 -- that went up. Every step is a choice between two values, so that compiled code has no jump. `ToWhole` of the proofs says that they give `floor`.
 use Rattle.std.specs.Prelude.{◌≡◌, refl, false, ◌*◌, ◌^◌, Float}
 use Rattle.std.specs.Float.{binary64}
-use Rattle.std.specs.Float.Ieee.{neg, lt, eq, round, of_bits}
+use Rattle.std.specs.Float.Ieee.{neg, lt, round, of_bits}
 use Rattle.floats.specs.Num.{choose, ◌⊕◌, ◌⊖◌, 0f, 1f}
 
 -- 2 ^ 51, below which in size one shift does for both signs
@@ -37,18 +37,10 @@ shift_of x = choose (lt x 0f) (neg TWO52) TWO52
 abbrev pub nearest_of : Float → Float → Float
 nearest_of x c = (x ⊕ c) ⊖ c
 
--- s, or 1 less where it is above x
+-- the greatest whole number that is not above x, from one that is less than 1 away: s, or 1 less where it is above x
 unfoldable pub lower_of : Float → Float → Float
 lower_of x s = choose (lt x s) (s ⊖ 1f) s
 
--- an x that is whole stays, and so keeps a zero's sign
-unfoldable pub whole_of : Float → Float → Float → Float
-whole_of x s r = choose (eq s x) x r
-
--- so does one that is not between -2 ^ 52 and 2 ^ 52, or not a number
+-- an x that is not between -2 ^ 52 and 2 ^ 52, or not a number, stays: it has no fraction, and is no zero
 unfoldable pub within_of : Float → Float → Float
 within_of x r = choose (lt x TWO52) (choose (lt (neg TWO52) x) r x) x
-
--- the greatest whole number that is not above x, from one that is less than 1 away
-abbrev pub down_of : Float → Float → Float
-down_of x s = whole_of x s (lower_of x s)

@@ -6,7 +6,7 @@ use Rattle.definition.specs.Params.{params}
 use Rattle.definition.specs.Model.{Model, as_written}
 use Rattle.definition.specs.Work.{Work, Step, stop, next}
 use Rattle.definition.specs.Rounds.{rounds}
-use Rattle.definition.specs.Cases.{#, ratio, -0f}
+use Rattle.definition.specs.Cases.{#, ratio}
 use Rattle.rows_kept.specs.Whole.{begun}
 
 unfoldable pub mixed : Model
@@ -29,7 +29,7 @@ mixed =
 
 -- ---- where the rounds start, and where they end
 unfoldable pub mixed_start : Work
-mixed_start = begun (-0f ∷ -0f ∷ -0f ∷ []) (# 1 ∷ # 8 ∷ # 5 ∷ []) (as_written mixed 0 ∷ as_written mixed 1 ∷ []) (0 ∷ 1 ∷ []) (true ∷ true ∷ []) 0
+mixed_start = begun (# 0 ∷ # 0 ∷ # 0 ∷ []) (# 1 ∷ # 8 ∷ # 5 ∷ []) (as_written mixed 0 ∷ as_written mixed 1 ∷ []) (0 ∷ 1 ∷ []) (true ∷ true ∷ []) 0
 
 unfoldable pub ended : Work → Step → Work
 ended w (stop k) = w

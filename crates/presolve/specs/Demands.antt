@@ -14,6 +14,7 @@ use Rattle.definition.specs.Model.{Model, is_int, Emit, Reduced}
 use Rattle.definition.specs.Presolve.{presolve}
 use Rattle.definition.specs.Refusal.{refusal}
 use Rattle.rows_kept.specs.Statements.{Fate, entries_of, occurs, count_below, no_entry}
+use Rattle.rows_kept.specs.NoMinusZero.{minus_zero}
 use Rattle.rows_kept.proofs.Theorems as kept
 use Rattle.points_kept.specs.Statements.{WholeNumbers, Point, terms_of, MeetsReduced, WholeReduced, Exact}
 use Rattle.best_kept.specs.Objective.{WholeObjective, SameFeasible, SameLeast, BestKept}
@@ -212,6 +213,12 @@ module _ {M : Model} {b b' : Results} {x x' : Working} {z : Answer} (p : Promise
     pub bounds_given : (v : ℕ) → is_int M v ≡ false → (at (take (length M.lower) b'.lower) v ≡ at M.lower v) × (at (take (length M.lower) b'.upper) v ≡ at M.upper v)
     unfolding reduced_in
     bounds_given = kept.bounds_given M model in_slices_lem
+
+    -- 02's W1: an integer variable's are not minus zero in Mip, dual fixing off or on
+    pub no_minus_zero : (v : ℕ) → v < length M.lower → is_int M v ≡ true
+        → (minus_zero (at (take (length M.lower) b'.lower) v) ≡ false) × (minus_zero (at (take (length M.lower) b'.upper) v) ≡ false)
+    unfolding reduced_in
+    no_minus_zero = kept.no_minus_zero M model in_slices_lem
 
     -- on a farm model, dual fixing off or on and coefficients rewritten or not, the reduced bounds are whole numbers of the given box, in order
     pub bounds_whole : WholeNumbers M → WholeBounds M model

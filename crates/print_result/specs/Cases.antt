@@ -10,9 +10,9 @@ use Rattle.print_result.specs.Text.{validate_lines, term_lines, row_text, row_te
 
 pub case_1 :
     answer_text Kind.Reduced (record { rowsDropped = 1; boundsTightened = 1; varsFixed = 0; coeffsTightened = 0; passes = 2 })
-    1 (of_bits binary64 0x8000_0000_0000_0000 ∷ []) (of_bits binary64 0x4008_0000_0000_0000 ∷ [])
+    1 (of_bits binary64 0 ∷ []) (of_bits binary64 0x4008_0000_0000_0000 ∷ [])
     0 [] [] [] [] [] [] [] 1 (0 ∷ [])
-    ≡ ascii "answer reduced\ncounts 1 1 0 0 2\nbound 0 8000000000000000 4008000000000000\nvalidate 0\n"
+    ≡ ascii "answer reduced\ncounts 1 1 0 0 2\nbound 0 0000000000000000 4008000000000000\nvalidate 0\n"
 unfolding choose ascii digit tens decimal hex_digits number bits answer_line counts_line bound_line validate_line each from_to bound_lines validate_lines row_texts followed answer_text of_bits to_bits
 case_1 = refl
 

@@ -17,6 +17,7 @@ pub mod GivenBounds
 pub mod AllRows
 pub mod EqRows
 pub mod Sizes
+pub mod NoMinusZero
 pub mod NoNan
 pub mod Coefficients
 pub mod Zeros

@@ -6,7 +6,7 @@ use Rattle.std.specs.Prelude.{◌≡◌, refl, Bool, true, false, ◌&&◌, cond
 use Rattle.std.specs.Bool.{beq}
 use Rattle.std.specs.Float.{Format, nan, inf, fin}
 use Rattle.std.specs.Float.Ieee.{binary64, low, prec, emax, size, nearest, is_nan, odd, units, round, neg, sum, add, sub}
-use Rattle.floats.specs.Num.{is_finite, sign_of, trunc_of, away_of, floor, ceil}
+use Rattle.floats.specs.Num.{is_finite, sign_of, trunc_of, away_of, plus_zero, floor, ceil}
 use Rattle.tolerances.specs.Tol.{at}
 use Rattle.definition.specs.Model.{Model}
 use Rattle.definition.specs.Work.{drop_row}
@@ -76,13 +76,20 @@ away_number nan h = h
 away_number (inf s) h = refl
 away_number (fin s m e) h = round_number binary64 s _ 1
 
+pub plus_number : (x : Float) → is_nan x ≡ false → is_nan (plus_zero x) ≡ false
+unfolding plus_zero is_nan
+plus_number nan h = h
+plus_number (inf s) h = refl
+plus_number (fin s zero e) h = refl
+plus_number (fin s (suc m) e) h = refl
+
 pub floor_number : (x : Float) → is_nan x ≡ false → is_nan (floor x) ≡ false
 unfolding floor
-floor_number x h = either (sign_of x) (away_of x) (trunc_of x) (away_number x h) (trunc_number x h)
+floor_number x h = plus_number _ (either (sign_of x) (away_of x) (trunc_of x) (away_number x h) (trunc_number x h))
 
 pub ceil_number : (x : Float) → is_nan x ≡ false → is_nan (ceil x) ≡ false
 unfolding ceil
-ceil_number x h = either (sign_of x) (trunc_of x) (away_of x) (trunc_number x h) (away_number x h)
+ceil_number x h = plus_number _ (either (sign_of x) (trunc_of x) (away_of x) (trunc_number x h) (away_number x h))
 
 pub numeric_set : (n : ℕ) (l : List Float) (v : ℕ) (x : Float) → (v < n → is_nan x ≡ false) → Numeric n l → Numeric n (set l v x)
 numeric_set n l v x h k =

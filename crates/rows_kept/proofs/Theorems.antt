@@ -24,6 +24,8 @@ use Rattle.rows_kept.proofs.GivenBounds.{given_held}
 use Rattle.rows_kept.proofs.Sizes.{room_kept}
 use Rattle.rows_kept.specs.NoNan.{Numbers}
 use Rattle.rows_kept.proofs.NoNan.{no_nan_held}
+use Rattle.rows_kept.specs.NoMinusZero.{minus_zero}
+use Rattle.rows_kept.proofs.NoMinusZero.{plain_answer}
 use Rattle.rows_kept.specs.Coefficients.{NumberTerm}
 use Rattle.rows_kept.proofs.Coefficients.{out_numbers}
 use Rattle.rows_kept.specs.EqRows.{NotEqEntry}
@@ -138,3 +140,7 @@ module _ (M : Model) (R : Reduced) (e : presolve M ≡ done R) where
 
   pub no_nan_terms : Spans M → All (λ (a : Float). is_nan a ≡ false) M.coeff → All (λ (t : Term). is_nan t.coeff ≡ false) R.terms
   no_nan_terms S N = of_done M (out_numbers M) (λ R. All NumberTerm R.terms) (λ w o p j. j S N) e
+
+  -- ---- 9: in Mip no bound of an integer variable is minus zero
+  pub no_minus_zero : (v : ℕ) → v < length M.lower → is_int M v ≡ true → (minus_zero (at R.lower v) ≡ false) × (minus_zero (at R.upper v) ≡ false)
+  no_minus_zero v h i = let p = plain_answer M e in (p.0 v h i, p.1 v h i)

@@ -18,6 +18,7 @@ pub mod Given
 pub mod AllRows
 pub mod EqRows
 pub mod Sizes
+pub mod NoMinusZero
 pub mod NoNan
 pub mod Coefficients
 pub mod Zeros

@@ -2,15 +2,15 @@
 use Rattle.std.specs.Prelude.{ℕ, ◌+◌, ◌≡◌, refl, Bool, true, false, not, ◌&&◌, List, T, leb, ℤ, pos, Float}
 use Rattle.std.proofs.Common.{add-zero, sym, ap, ◌∙◌, subst, eqb→eq}
 use Rattle.std.proofs.lemmas.Bool.{false≢true}
-use Rattle.std.proofs.Math.Dec.{eqb_refl}
+use Rattle.std.proofs.Math.Dec.{eqb, eqb_refl}
 use Rattle.std.specs.Float.{nan, inf, fin, binary64}
 use Rattle.std.specs.Float.Ieee.{fits, eq, le}
-use Rattle.floats.specs.Num.{floor, is_finite, abs}
+use Rattle.floats.specs.Num.{plus_zero, floor, is_finite, abs}
 use Rattle.floats.specs.Zed.{P, N, A, ext}
 use Rattle.floats.specs.Value.{Num, units, eq_units, bool_eq}
 use Rattle.floats.specs.Points.{int, is_whole, Whole, Is}
 use Rattle.floats.proofs.Points.{of_units, le_is, abs_is}
-use Rattle.floats.proofs.Meaning.{floor_value}
+use Rattle.floats.proofs.Meaning.{plus_num, plus_units, floor_value}
 use Rattle.floats.proofs.Growth.{floor_fixes}
 use Rattle.tolerances.specs.Tol.{at}
 use Rattle.whole_numbers.specs.Fault.{whole_within, number_off}
@@ -24,7 +24,8 @@ module _ (x : Float) (h : Num x) where
 
   whole_floor : T (is_whole x) → T (eq (floor x) x)
   whole_floor t =
-      let e = ap (λ (y : Float). eq y x) (floor_fixes {x = x} (record { whole = t })) ∙ eq_units x x h h in
+      let e = ap (λ (y : Float). eq y x) (floor_fixes {x = x} (record { whole = t })) ∙ eq_units (plus_zero x) x (plus_num x h) h
+      ∙ ap (λ (u : ℤ). eqb (P u + N (units x)) (P (units x) + N u)) (plus_units x) in
       subst T (sym e) (eqb_refl (P (units x) + N (units x)))
 
 -- a finite float is whole exactly where it equals its floor
