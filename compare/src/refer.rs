@@ -31,7 +31,7 @@ fn same(a: &Option<plain::Output>, b: &Option<noted::Output>) -> bool {
 }
 
 // The bounds by W1. In Mip every finite bound of an integer variable comes from rounding, so none is minus zero; the others must be
-// the given ones, their minus zeros too. No other result changes: a zero's sign decides nothing, and reaches no row.
+// the given ones, their minus zeros too. No other result was seen to change by it (README.md, 'The sign of zero').
 fn plus_zeros(m: &Model, given: &[f64], mut bounds: Vec<f64>) -> Vec<f64> {
     for v in 0..m.vars() {
         if !m.rounds(v) {

@@ -29,4 +29,5 @@ pub mod Tests
 pub mod Accepted
 pub mod Cases
 pub mod DualCases
+pub mod ZeroCases
 pub mod Edges

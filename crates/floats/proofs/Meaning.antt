@@ -218,16 +218,16 @@ floor_mirror (fin true m e) = turned false ((m * up e + (down e - 1)) / down e)
 floor_mirror (fin false m e) = turned true (m * up e / down e)
 
 -- a difference from 0.0 turns a sign so: of equal numbers it is +0
-pub minus : (y : Float) → T (fits binary64 y) → 0f ⊖ y ≡ plus_zero (neg y)
-minus nan f = unfold plus_zero of_bits sub add neg in refl
-minus (inf true) f = unfold plus_zero of_bits sub add neg in refl
-minus (inf false) f = unfold plus_zero of_bits sub add neg in refl
-minus (fin s zero e) f = subst (λ (d : ℤ). 0f ⊖ fin s zero d ≡ plus_zero (neg (fin s zero d))) (sym (flat e (eqb→eq (up e * down e) 1 (unfold fits in f)))) (zeros s)
+pub zero_less : (y : Float) → T (fits binary64 y) → 0f ⊖ y ≡ plus_zero (neg y)
+zero_less nan f = unfold plus_zero of_bits sub add neg in refl
+zero_less (inf true) f = unfold plus_zero of_bits sub add neg in refl
+zero_less (inf false) f = unfold plus_zero of_bits sub add neg in refl
+zero_less (fin s zero e) f = subst (λ (d : ℤ). 0f ⊖ fin s zero d ≡ plus_zero (neg (fin s zero d))) (sym (flat e (eqb→eq (up e * down e) 1 (unfold fits in f)))) (zeros s)
   where
     zeros : (s : Bool) → 0f ⊖ fin s zero (pos 0) ≡ plus_zero (neg (fin s zero (pos 0)))
     zeros true = unfold plus_zero of_bits sub add neg in refl
     zeros false = unfold plus_zero of_bits sub add neg in refl
-minus (fin s (suc m) e) f =
+zero_less (fin s (suc m) e) f =
     let y = fin s (suc m) e in
     let z = fin (not s) (suc m) e in
     let nz : Num z = (tt, unfold fits in f) in
@@ -245,7 +245,7 @@ minus (fin s (suc m) e) f =
 
 -- so that is how `ceil` is computed
 pub ceil_code : (x : Float) → T (fits binary64 x) → 0f ⊖ floor (neg x) ≡ ceil x
-ceil_code x f = minus (floor (neg x)) (floor_fits (neg x) (neg-fits binary64 x f)) ∙ sym (ceil_mirror x)
+ceil_code x f = zero_less (floor (neg x)) (floor_fits (neg x) (neg-fits binary64 x f)) ∙ sym (ceil_mirror x)
   where
     floor_fits : (x : Float) → T (fits binary64 x) → T (fits binary64 (floor x))
     floor_fits nan f = subst (λ (z : Float). T (fits binary64 z)) (sym floor_nan) f

@@ -22,82 +22,79 @@ use Rattle.rows_kept.specs.Kept.{Marking}
 use Rattle.rows_kept.proofs.Boxes.{mark_var_lem, mark_tightened_lem}
 use Rattle.rows_kept.specs.States.{Reaches, begins, marks, counted, passes, lowers, raises, singles, forces, fixes, changes, drops, Answered, reduced_to}
 use Rattle.rows_kept.proofs.States.{next_is, answer_reached}
-use Rattle.rows_kept.specs.NoMinusZero.{minus_zero, Plus, Pluses, NoMinusZero}
+use Rattle.rows_kept.specs.NoMinusZero.{minus_zero, Clean, CleanBelow, CleanBounds, CleanState}
 
 -- ---- where a bound comes from
-abbrev Plain : Float → Type 0
-Plain x = minus_zero x ≡ false
-
-plus_plain : (x : Float) → Plain (plus_zero x)
+plus_clean : (x : Float) → Clean (plus_zero x)
 unfolding minus_zero plus_zero
-plus_plain nan = refl
-plus_plain (inf s) = refl
-plus_plain (fin s zero e) = refl
-plus_plain (fin s (suc m) e) = refl
+plus_clean nan = refl
+plus_clean (inf s) = refl
+plus_clean (fin s zero e) = refl
+plus_clean (fin s (suc m) e) = refl
 
-floor_plain : (x : Float) → Plain (floor x)
+floor_clean : (x : Float) → Clean (floor x)
 unfolding floor
-floor_plain x = plus_plain _
+floor_clean x = plus_clean _
 
-ceil_plain : (x : Float) → Plain (ceil x)
+ceil_clean : (x : Float) → Clean (ceil x)
 unfolding ceil
-ceil_plain x = plus_plain _
+ceil_clean x = plus_clean _
 
-infinite_plain : (x : Float) → is_finite x ≡ false → Plain x
+infinite_clean : (x : Float) → is_finite x ≡ false → Clean x
 unfolding minus_zero is_finite
-infinite_plain nan h = refl
-infinite_plain (inf s) h = refl
-infinite_plain (fin s m e) h = true≢false refl h
+infinite_clean nan h = refl
+infinite_clean (inf s) h = refl
+infinite_clean (fin s m e) h = true≢false refl h
 
-max_plain : (x y : Float) → Plain x → Plain y → Plain (maxf x y)
+max_clean : (x y : Float) → Clean x → Clean y → Clean (maxf x y)
 unfolding maxf
-max_plain x y p q = both Plain (is_nan x || lt x y) q p
+max_clean x y p q = both Clean (is_nan x || lt x y) q p
 
-min_plain : (x y : Float) → Plain x → Plain y → Plain (minf x y)
+min_clean : (x y : Float) → Clean x → Clean y → Clean (minf x y)
 unfolding minf
-min_plain x y p q = both Plain (is_nan x || lt y x) q p
+min_clean x y p q = both Clean (is_nan x || lt y x) q p
 
-lower_plain : (tol l : Float) → Plain (rounded_lower tol l)
+lower_clean : (tol l : Float) → Clean (rounded_lower tol l)
 unfolding rounded_lower
-lower_plain tol l = taking Plain (is_finite l) (λ t. ceil_plain (l ⊖ tol)) (infinite_plain l)
+lower_clean tol l = taking Clean (is_finite l) (λ t. ceil_clean (l ⊖ tol)) (infinite_clean l)
 
-upper_plain : (tol h : Float) → Plain (rounded_upper tol h)
+upper_clean : (tol h : Float) → Clean (rounded_upper tol h)
 unfolding rounded_upper
-upper_plain tol h = taking Plain (is_finite h) (λ t. floor_plain (h ⊕ tol)) (infinite_plain h)
+upper_clean tol h = taking Clean (is_finite h) (λ t. floor_clean (h ⊕ tol)) (infinite_clean h)
 
 -- ---- a list, one of its bounds set; past its end there is none
-set_plain : (l : List Float) (v : ℕ) (x : Float) (q : ℕ) → (v ≡ q → Plain x) → Plain (at l q) → Plain (at (set l v x) q)
-set_plain [] v x q h k = k
-set_plain (y ∷ ys) zero x zero h k = h refl
-set_plain (y ∷ ys) zero x (suc q) h k = k
-set_plain (y ∷ ys) (suc v) x zero h k = k
-set_plain (y ∷ ys) (suc v) x (suc q) h k = set_plain ys v x q (λ e. h (ap suc e)) k
+set_clean : (l : List Float) (v : ℕ) (x : Float) (q : ℕ) → (v ≡ q → Clean x) → Clean (at l q) → Clean (at (set l v x) q)
+set_clean [] v x q h k = k
+set_clean (y ∷ ys) zero x zero h k = h refl
+set_clean (y ∷ ys) zero x (suc q) h k = k
+set_clean (y ∷ ys) (suc v) x zero h k = k
+set_clean (y ∷ ys) (suc v) x (suc q) h k = set_clean ys v x q (λ e. h (ap suc e)) k
 
-own_plain : (l : List Float) (v : ℕ) (x : Float) → Plain x → Plain (at (set l v x) v)
-own_plain [] v x h = unfold minus_zero in refl
-own_plain (y ∷ ys) zero x h = h
-own_plain (y ∷ ys) (suc v) x h = own_plain ys v x h
+own_clean : (l : List Float) (v : ℕ) (x : Float) → Clean x → Clean (at (set l v x) v)
+own_clean [] v x h = unfold minus_zero in refl
+own_clean (y ∷ ys) zero x h = h
+own_clean (y ∷ ys) (suc v) x h = own_clean ys v x h
 
 module _ (M : Model) where
-  abbrev IntPlain : ℕ → Float → Type 0
-  IntPlain v x = v < length M.lower → is_int M v ≡ true → Plain x
+  abbrev IntClean : ℕ → Float → Type 0
+  IntClean v x = v < length M.lower → is_int M v ≡ true → Clean x
 
-  plus_set : (l : List Float) (v : ℕ) (x : Float) → IntPlain v x → Plus M (length M.lower) l → Plus M (length M.lower) (set l v x)
-  plus_set l v x h p q k i =
-      set_plain l v x q (λ e. h (subst (λ (j : ℕ). j < length M.lower) (sym e) k) (subst (λ (j : ℕ). is_int M j ≡ true) (sym e) i)) (p q k i)
+  clean_set : (l : List Float) (v : ℕ) (x : Float) → IntClean v x → CleanBelow M (length M.lower) l → CleanBelow M (length M.lower) (set l v x)
+  clean_set l v x h p q k i =
+      set_clean l v x q (λ e. h (subst (λ (j : ℕ). j < length M.lower) (sym e) k) (subst (λ (j : ℕ). is_int M j ≡ true) (sym e) i)) (p q k i)
 
   -- ---- rounding, variable by variable
   data Round (n : ℕ) : Bounds → Type 0 where
     crosses : Round n cross
-    rounds_to : {ls hs : List Float} → Plus M n ls → Plus M n hs → Round n (bounds ls hs)
+    rounds_to : {ls hs : List Float} → CleanBelow M n ls → CleanBelow M n hs → Round n (bounds ls hs)
 
-  next_set : (l : List Float) (v : ℕ) (x : Float) → Plain x → Plus M v l → Plus M (suc v) (set l v x)
+  next_set : (l : List Float) (v : ℕ) (x : Float) → Clean x → CleanBelow M v l → CleanBelow M (suc v) (set l v x)
   next_set l v x h p q k i = elim (ℕ_discrete q v) [
-    | yes e ↦ subst (λ (j : ℕ). Plain (at (set l v x) j)) (sym e) (own_plain l v x h)
-    | no d ↦ set_plain l v x q (λ e. h) (p q (omega arith) i)
+    | yes e ↦ subst (λ (j : ℕ). Clean (at (set l v x) j)) (sym e) (own_clean l v x h)
+    | no d ↦ set_clean l v x q (λ e. h) (p q (omega arith) i)
   ]
 
-  next_real : (l : List Float) (v : ℕ) → is_int M v ≡ false → Plus M v l → Plus M (suc v) l
+  next_real : (l : List Float) (v : ℕ) → is_int M v ≡ false → CleanBelow M v l → CleanBelow M (suc v) l
   next_real l v r p q k i = elim (ℕ_discrete q v) [
     | yes e ↦ true≢false (subst (λ (j : ℕ). is_int M j ≡ true) e i) r
     | no d ↦ p q (omega arith) i
@@ -109,7 +106,7 @@ module _ (M : Model) where
   var_rounds v (bounds ls hs) (rounds_to p q) =
       let R : Bounds → Type 0 = Round (suc v) in
       taking R (is_int M v)
-      (λ i. both R _ crosses (rounds_to (next_set ls v _ (lower_plain M.int_tol (at ls v)) p) (next_set hs v _ (upper_plain M.int_tol (at hs v)) q)))
+      (λ i. both R _ crosses (rounds_to (next_set ls v _ (lower_clean M.int_tol (at ls v)) p) (next_set hs v _ (upper_clean M.int_tol (at hs v)) q)))
       (λ i. rounds_to (next_real ls v i p) (next_real hs v i q))
 
   from_rounds : (n v : ℕ) (b : Bounds) → Round v b → Round (v + n) (round_from M n v b)
@@ -117,137 +114,137 @@ module _ (M : Model) where
   from_rounds zero v b h = rw add-zero h
   from_rounds (suc n) v b h = rw (add-suc, ← suc-add) (from_rounds n (suc v) _ (var_rounds v b h))
 
-  started : {ls hs : List Float} → Round (length M.lower) (bounds ls hs) → Pluses M ls hs ls hs
+  started : {ls hs : List Float} → Round (length M.lower) (bounds ls hs) → CleanBounds M ls hs ls hs
   started (rounds_to p q) = record { working_lower = p; working_upper = q; lower = p; upper = q }
 
   -- ---- the moves
-  marking : Marking (NoMinusZero M)
+  marking : Marking (CleanState M)
   marking = record { marks = λ w d c q p. p; counted = λ w a b c p. p }
 
-  fix_plain : (v : ℕ) (x : Float) (w : Work) → IntPlain v x → NoMinusZero M w → NoMinusZero M (fix M v x w)
+  fix_clean : (v : ℕ) (x : Float) (w : Work) → IntClean v x → CleanState M w → CleanState M (fix M v x w)
   unfolding fix
-  fix_plain v x w h p = mark_var_lem M marking v _ (record {
-    working_lower = plus_set w.wlo v x h p.working_lower;
-    working_upper = plus_set w.whi v x h p.working_upper;
-    lower = plus_set w.elo v x h p.lower;
-    upper = plus_set w.ehi v x h p.upper;
+  fix_clean v x w h p = mark_var_lem M marking v _ (record {
+    working_lower = clean_set w.wlo v x h p.working_lower;
+    working_upper = clean_set w.whi v x h p.working_upper;
+    lower = clean_set w.elo v x h p.lower;
+    upper = clean_set w.ehi v x h p.upper;
   })
 
-  upper_int_plain : (v : ℕ) (x : Float) (w : Work) → Plain x → NoMinusZero M w → Each (NoMinusZero M) (upper_int M v x w)
+  upper_int_clean : (v : ℕ) (x : Float) (w : Work) → Clean x → CleanState M w → Each (CleanState M) (upper_int M v x w)
   unfolding upper_int
-  upper_int_plain v x w h p = both (Each (NoMinusZero M)) _
-      (both (Each (NoMinusZero M)) _ (stopped w refl p)
+  upper_int_clean v x w h p = both (Each (CleanState M)) _
+      (both (Each (CleanState M)) _ (stopped w refl p)
       (went (mark_tightened_lem M marking v _ (record {
         working_lower = p.working_lower;
-        working_upper = plus_set w.whi v _ (λ k i. min_plain (at w.whi v) x (p.working_upper v k i) h) p.working_upper;
+        working_upper = clean_set w.whi v _ (λ k i. min_clean (at w.whi v) x (p.working_upper v k i) h) p.working_upper;
         lower = p.lower;
-        upper = plus_set w.ehi v x (λ k i. h) p.upper;
+        upper = clean_set w.ehi v x (λ k i. h) p.upper;
       }))))
       (went p)
 
-  lower_int_plain : (v : ℕ) (x : Float) (w : Work) → Plain x → NoMinusZero M w → Each (NoMinusZero M) (lower_int M v x w)
+  lower_int_clean : (v : ℕ) (x : Float) (w : Work) → Clean x → CleanState M w → Each (CleanState M) (lower_int M v x w)
   unfolding lower_int
-  lower_int_plain v x w h p = both (Each (NoMinusZero M)) _
-      (both (Each (NoMinusZero M)) _ (stopped w refl p)
+  lower_int_clean v x w h p = both (Each (CleanState M)) _
+      (both (Each (CleanState M)) _ (stopped w refl p)
       (went (mark_tightened_lem M marking v _ (record {
-        working_lower = plus_set w.wlo v _ (λ k i. max_plain (at w.wlo v) x (p.working_lower v k i) h) p.working_lower;
+        working_lower = clean_set w.wlo v _ (λ k i. max_clean (at w.wlo v) x (p.working_lower v k i) h) p.working_lower;
         working_upper = p.working_upper;
-        lower = plus_set w.elo v x (λ k i. h) p.lower;
+        lower = clean_set w.elo v x (λ k i. h) p.lower;
         upper = p.upper;
       }))))
       (went p)
 
-  upper_real_plain : (v : ℕ) (x : Float) (w : Work) → is_int M v ≡ false → NoMinusZero M w → Each (NoMinusZero M) (upper_real M v x w)
+  upper_real_clean : (v : ℕ) (x : Float) (w : Work) → is_int M v ≡ false → CleanState M w → Each (CleanState M) (upper_real M v x w)
   unfolding upper_real
-  upper_real_plain v x w r p = both (Each (NoMinusZero M)) _
-      (both (Each (NoMinusZero M)) _ (both (Each (NoMinusZero M)) _ (stopped w refl p) (went p))
+  upper_real_clean v x w r p = both (Each (CleanState M)) _
+      (both (Each (CleanState M)) _ (both (Each (CleanState M)) _ (stopped w refl p) (went p))
       (went (mark_tightened_lem M marking v _ (record {
         working_lower = p.working_lower;
-        working_upper = plus_set w.whi v x (λ k i. true≢false i r) p.working_upper;
+        working_upper = clean_set w.whi v x (λ k i. true≢false i r) p.working_upper;
         lower = p.lower;
         upper = p.upper;
       }))))
       (went p)
 
-  lower_real_plain : (v : ℕ) (x : Float) (w : Work) → is_int M v ≡ false → NoMinusZero M w → Each (NoMinusZero M) (lower_real M v x w)
+  lower_real_clean : (v : ℕ) (x : Float) (w : Work) → is_int M v ≡ false → CleanState M w → Each (CleanState M) (lower_real M v x w)
   unfolding lower_real
-  lower_real_plain v x w r p = both (Each (NoMinusZero M)) _
-      (both (Each (NoMinusZero M)) _ (both (Each (NoMinusZero M)) _ (stopped w refl p) (went p))
+  lower_real_clean v x w r p = both (Each (CleanState M)) _
+      (both (Each (CleanState M)) _ (both (Each (CleanState M)) _ (stopped w refl p) (went p))
       (went (mark_tightened_lem M marking v _ (record {
-        working_lower = plus_set w.wlo v x (λ k i. true≢false i r) p.working_lower;
+        working_lower = clean_set w.wlo v x (λ k i. true≢false i r) p.working_lower;
         working_upper = p.working_upper;
         lower = p.lower;
         upper = p.upper;
       }))))
       (went p)
 
-  upper_plain_step : (v : ℕ) (q relax : Float) (w : Work) → NoMinusZero M w → Each (NoMinusZero M) (tighten_upper M v q relax w)
+  upper_clean_step : (v : ℕ) (q relax : Float) (w : Work) → CleanState M w → Each (CleanState M) (tighten_upper M v q relax w)
   unfolding tighten_upper
-  upper_plain_step v q relax w p = both (Each (NoMinusZero M)) _
-      (taking (Each (NoMinusZero M)) (is_int M v) (λ i. upper_int_plain v _ w (floor_plain (q ⊕ relax)) p) (λ r. upper_real_plain v _ w r p)) (went p)
+  upper_clean_step v q relax w p = both (Each (CleanState M)) _
+      (taking (Each (CleanState M)) (is_int M v) (λ i. upper_int_clean v _ w (floor_clean (q ⊕ relax)) p) (λ r. upper_real_clean v _ w r p)) (went p)
 
-  lower_plain_step : (v : ℕ) (q relax : Float) (w : Work) → NoMinusZero M w → Each (NoMinusZero M) (tighten_lower M v q relax w)
+  lower_clean_step : (v : ℕ) (q relax : Float) (w : Work) → CleanState M w → Each (CleanState M) (tighten_lower M v q relax w)
   unfolding tighten_lower
-  lower_plain_step v q relax w p = both (Each (NoMinusZero M)) _
-      (taking (Each (NoMinusZero M)) (is_int M v) (λ i. lower_int_plain v _ w (ceil_plain (q ⊖ relax)) p) (λ r. lower_real_plain v _ w r p)) (went p)
+  lower_clean_step v q relax w p = both (Each (CleanState M)) _
+      (taking (Each (CleanState M)) (is_int M v) (λ i. lower_int_clean v _ w (ceil_clean (q ⊖ relax)) p) (λ r. lower_real_clean v _ w r p)) (went p)
 
-  emit_plain : (v : ℕ) (lo hi : Float) (w : Work) → IntPlain v lo → IntPlain v hi → NoMinusZero M w → NoMinusZero M (emit_bounds M v lo hi w)
+  emit_clean : (v : ℕ) (lo hi : Float) (w : Work) → IntClean v lo → IntClean v hi → CleanState M w → CleanState M (emit_bounds M v lo hi w)
   unfolding emit_bounds
-  emit_plain v lo hi w a b p = record {
-    working_lower = plus_set w.wlo v _ (λ k i. min_plain (maxf (at w.wlo v) lo) hi (max_plain (at w.wlo v) lo (p.working_lower v k i) (a k i)) (b k i)) p.working_lower;
-    working_upper = plus_set w.whi v _ (λ k i. max_plain (minf (at w.whi v) hi) lo (min_plain (at w.whi v) hi (p.working_upper v k i) (b k i)) (a k i)) p.working_upper;
-    lower = plus_set w.elo v lo a p.lower;
-    upper = plus_set w.ehi v hi b p.upper;
+  emit_clean v lo hi w a b p = record {
+    working_lower = clean_set w.wlo v _ (λ k i. min_clean (maxf (at w.wlo v) lo) hi (max_clean (at w.wlo v) lo (p.working_lower v k i) (a k i)) (b k i)) p.working_lower;
+    working_upper = clean_set w.whi v _ (λ k i. max_clean (minf (at w.whi v) hi) lo (min_clean (at w.whi v) hi (p.working_upper v k i) (b k i)) (a k i)) p.working_upper;
+    lower = clean_set w.elo v lo a p.lower;
+    upper = clean_set w.ehi v hi b p.upper;
   }
 
-  new_low : (r : ℕ) (row : Row) (v : ℕ) (a blo : Float) (w : Work) → NoMinusZero M w → IntPlain v (new_lower M r row a blo (at w.elo v))
+  new_low : (r : ℕ) (row : Row) (v : ℕ) (a blo : Float) (w : Work) → CleanState M w → IntClean v (new_lower M r row a blo (at w.elo v))
   unfolding new_lower
-  new_low r row v a blo w p k i = both Plain _ (max_plain (at w.elo v) _ (p.lower v k i) (ceil_plain _)) (p.lower v k i)
+  new_low r row v a blo w p k i = both Clean _ (max_clean (at w.elo v) _ (p.lower v k i) (ceil_clean _)) (p.lower v k i)
 
-  new_high : (r : ℕ) (row : Row) (v : ℕ) (a bhi : Float) (w : Work) → NoMinusZero M w → IntPlain v (new_upper M r row a bhi (at w.ehi v))
+  new_high : (r : ℕ) (row : Row) (v : ℕ) (a bhi : Float) (w : Work) → CleanState M w → IntClean v (new_upper M r row a bhi (at w.ehi v))
   unfolding new_upper
-  new_high r row v a bhi w p k i = both Plain _ (min_plain (at w.ehi v) _ (p.upper v k i) (floor_plain _)) (p.upper v k i)
+  new_high r row v a bhi w p k i = both Clean _ (min_clean (at w.ehi v) _ (p.upper v k i) (floor_clean _)) (p.upper v k i)
 
-  single_plain : (r : ℕ) (row : Row) (v : ℕ) (a blo bhi : Float) (w : Work) → NoMinusZero M w → Each (NoMinusZero M) (singleton_int M r row v a blo bhi w)
+  single_clean : (r : ℕ) (row : Row) (v : ℕ) (a blo bhi : Float) (w : Work) → CleanState M w → Each (CleanState M) (singleton_int M r row v a blo bhi w)
   unfolding singleton_int
-  single_plain r row v a blo bhi w p =
-      both (Each (NoMinusZero M)) _ (stopped w refl p) (went (emit_plain v _ _ w (new_low r row v a blo w p) (new_high r row v a bhi w p) p))
+  single_clean r row v a blo bhi w p =
+      both (Each (CleanState M)) _ (stopped w refl p) (went (emit_clean v _ _ w (new_low r row v a blo w p) (new_high r row v a bhi w p) p))
 
-  corner_plain : (minCorner : Bool) (w0 : Work) (t : Term) → NoMinusZero M w0 → IntPlain t.var (corner minCorner w0 t)
+  corner_clean : (minCorner : Bool) (w0 : Work) (t : Term) → CleanState M w0 → IntClean t.var (corner minCorner w0 t)
   unfolding corner
-  corner_plain minCorner w0 t p k i = both Plain _ (p.upper t.var k i) (p.lower t.var k i)
+  corner_clean minCorner w0 t p k i = both Clean _ (p.upper t.var k i) (p.lower t.var k i)
 
-  dual_plain : (dec inc : List Bool) (v : ℕ) (w : Work) (changed : Bool) → NoMinusZero M w → NoMinusZero M (dual_var M dec inc v w changed).0
+  dual_clean : (dec inc : List Bool) (v : ℕ) (w : Work) (changed : Bool) → CleanState M w → CleanState M (dual_var M dec inc v w changed).0
   unfolding dual_var
-  dual_plain dec inc v w changed p =
-      let Q : Work × Bool → Type 0 = λ x. NoMinusZero M x.0 in
-      both Q _ p (both Q _ (fix_plain v _ w (p.working_lower v) p) (both Q _ (fix_plain v _ w (p.working_upper v) p) p))
+  dual_clean dec inc v w changed p =
+      let Q : Work × Bool → Type 0 = λ x. CleanState M x.0 in
+      both Q _ p (both Q _ (fix_clean v _ w (p.working_lower v) p) (both Q _ (fix_clean v _ w (p.working_upper v) p) p))
 
   -- ---- IN EVERY STATE
-  pub plain_reached : {w : Work} → Reaches M w → NoMinusZero M w
+  pub clean_reached : {w : Work} → Reaches M w → CleanState M w
   unfolding drop_row
-  plain_reached (begins c b e) = started (subst (Round (length M.lower)) b all)
+  clean_reached (begins c b e) = started (subst (Round (length M.lower)) b all)
     where
-      none : (l : List Float) → Plus M 0 l
+      none : (l : List Float) → CleanBelow M 0 l
       none l v k i = absurd (omega arith)
 
       all : Round (length M.lower) (round_from M (length M.lower) 0 (bounds M.lower M.upper))
       all = subst (λ (n : ℕ). Round n (round_from M (length M.lower) 0 (bounds M.lower M.upper))) (zero-add (length M.lower))
           (from_rounds (length M.lower) 0 (bounds M.lower M.upper) (rounds_to (none M.lower) (none M.upper)))
-  plain_reached (marks {w} d c q h) = plain_reached h
-  plain_reached (counted {w} a b c h) = plain_reached h
-  plain_reached (passes {w} h) = plain_reached h
-  plain_reached (lowers {w} v q relax e h) = next_is (subst (Each (NoMinusZero M)) e (upper_plain_step v q relax w (plain_reached h)))
-  plain_reached (raises {w} v q relax e h) = next_is (subst (Each (NoMinusZero M)) e (lower_plain_step v q relax w (plain_reached h)))
-  plain_reached (singles {w} r row v a blo bhi i e h) = next_is (subst (Each (NoMinusZero M)) e (single_plain r row v a blo bhi w (plain_reached h)))
-  plain_reached (forces {w0} {w} minCorner t i g h) = fix_plain t.var _ w (corner_plain minCorner w0 t (plain_reached g)) (plain_reached h)
-  plain_reached (fixes {w} dec inc v changed h) = dual_plain dec inc v w changed (plain_reached h)
-  plain_reached (changes {w} r row a c h) = plain_reached h
-  plain_reached (drops {w} r row g a h) = plain_reached h
+  clean_reached (marks {w} d c q h) = clean_reached h
+  clean_reached (counted {w} a b c h) = clean_reached h
+  clean_reached (passes {w} h) = clean_reached h
+  clean_reached (lowers {w} v q relax e h) = next_is (subst (Each (CleanState M)) e (upper_clean_step v q relax w (clean_reached h)))
+  clean_reached (raises {w} v q relax e h) = next_is (subst (Each (CleanState M)) e (lower_clean_step v q relax w (clean_reached h)))
+  clean_reached (singles {w} r row v a blo bhi i e h) = next_is (subst (Each (CleanState M)) e (single_clean r row v a blo bhi w (clean_reached h)))
+  clean_reached (forces {w0} {w} minCorner t i g h) = fix_clean t.var _ w (corner_clean minCorner w0 t (clean_reached g)) (clean_reached h)
+  clean_reached (fixes {w} dec inc v changed h) = dual_clean dec inc v w changed (clean_reached h)
+  clean_reached (changes {w} r row a c h) = clean_reached h
+  clean_reached (drops {w} r row g a h) = clean_reached h
 
   -- so in the answer
-  pub plain_answer : {R : Reduced} → presolve M ≡ done R → Plus M (length M.lower) R.lower × Plus M (length M.lower) R.upper
-  plain_answer e = of_done (subst (Answered M) e (answer_reached M))
+  pub clean_answer : {R : Reduced} → presolve M ≡ done R → CleanBelow M (length M.lower) R.lower × CleanBelow M (length M.lower) R.upper
+  clean_answer e = of_done (subst (Answered M) e (answer_reached M))
     where
-      of_done : {R : Reduced} → Answered M (done R) → Plus M (length M.lower) R.lower × Plus M (length M.lower) R.upper
-      of_done (reduced_to w o h) = let p = plain_reached h in (p.lower, p.upper)
+      of_done : {R : Reduced} → Answered M (done R) → CleanBelow M (length M.lower) R.lower × CleanBelow M (length M.lower) R.upper
+      of_done (reduced_to w o h) = let p = clean_reached h in (p.lower, p.upper)

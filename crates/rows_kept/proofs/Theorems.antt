@@ -25,7 +25,7 @@ use Rattle.rows_kept.proofs.Sizes.{room_kept}
 use Rattle.rows_kept.specs.NoNan.{Numbers}
 use Rattle.rows_kept.proofs.NoNan.{no_nan_held}
 use Rattle.rows_kept.specs.NoMinusZero.{minus_zero}
-use Rattle.rows_kept.proofs.NoMinusZero.{plain_answer}
+use Rattle.rows_kept.proofs.NoMinusZero.{clean_answer}
 use Rattle.rows_kept.specs.Coefficients.{NumberTerm}
 use Rattle.rows_kept.proofs.Coefficients.{out_numbers}
 use Rattle.rows_kept.specs.EqRows.{NotEqEntry}
@@ -143,4 +143,4 @@ module _ (M : Model) (R : Reduced) (e : presolve M ≡ done R) where
 
   -- ---- 9: in Mip no bound of an integer variable is minus zero
   pub no_minus_zero : (v : ℕ) → v < length M.lower → is_int M v ≡ true → (minus_zero (at R.lower v) ≡ false) × (minus_zero (at R.upper v) ≡ false)
-  no_minus_zero v h i = let p = plain_answer M e in (p.0 v h i, p.1 v h i)
+  no_minus_zero v h i = let p = clean_answer M e in (p.0 v h i, p.1 v h i)
