@@ -3,6 +3,7 @@
 #   crate::note(..)                   where Infeasible is returned: the counts that the Rust's own variables hold there
 #   crate::note_kept(r), note_out(r, rewritten)   where a row is kept for validation or put out: its number
 #   crate::number(PLACE, x)           x, counted where it is not a number: 1 a row's budget, 2 a row's sides and shift after a fold
+# and 02's W1: plus zero is added to what a bound is rounded to, which makes plus zero of minus zero and leaves every other float.
 # The patterns are pieces of src/presolve/mod.rs, work.rs and src/solver/tolerances.rs of microlp 0.7.0, changed only by notes.
 # It rests on the text being laid out by rustfmt: an opening bracket that stays open ends its line, and a statement
 # begins a line. Kinds on the stack: "b" a block of statements, "o" anything else.
@@ -30,6 +31,7 @@ BEGIN { depth = 0; before = ";" }
     sub(/[^_]out\.push\(constraints\[row\.orig as usize\]\.clone\(\)\);/, " { crate::note_out(row.orig as usize, false); & }", line)
     if (trimmed == "out.push((") sub(/out\.push\(\(/, "crate::note_out(row.orig as usize, true); &", line)
   }
+  if (file <= 2) gsub(/\.(floor|ceil)\(\)/, "& + 0.0", line)
   if (file == 4) sub(/row_tolerance\(tol, magnitude\) - slack_margin\(tol, magnitude, terms\)/, "crate::number(1, &)", line)
   if (file == 2) sub(/row\.shift \+= shift;/, "& crate::number(2, [row.lo, row.hi, row.shift].into_iter().find(|x| x.is_nan()).unwrap_or(0.0));", line)
   if (starts) {

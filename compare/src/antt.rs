@@ -22,7 +22,7 @@ pub fn model_text(m: &Model) -> String {
     let ns = |xs: &[usize]| list(xs, |x| x.to_string());
     let bs = |xs: &[u8]| list(xs, |x| x.to_string());
     format!(
-        "record {{ obj = {}; lower = {}; upper = {}; domain = {}; starts = {}; index = {}; coeff = {}; cmp = {}; rhs = {}; mode = {}; feas = {}; intTol = {}; params = params }}",
+        "record {{ obj = {}; lower = {}; upper = {}; domain = {}; starts = {}; index = {}; coeff = {}; cmp = {}; rhs = {}; mode = {}; feas = {}; int_tol = {}; params = params }}",
         fs(&m.obj), fs(&m.lower), fs(&m.upper), bs(&m.domain), ns(&m.starts), ns(&m.index), fs(&m.coeff), bs(&m.cmp), fs(&m.rhs), m.mode, float(m.feas), float(m.int_tol)
     )
 }

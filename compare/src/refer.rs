@@ -1,5 +1,5 @@
-// The reference's answer to a model: microlp's own text, run as it is and once more with notes. The two must agree. Then 02's W1
-// is applied to it: what is rounded to a whole number and is zero is plus zero.
+// The reference's answer to a model: microlp's own text, run as it is, and once more with notes and with 02's W1 in its roundings,
+// whose answer counts. The two must agree but for the sign of a zero that was rounded.
 use crate::input::plain_input;
 use crate::model::{Answer, Emit, Model, Reduced};
 
@@ -14,24 +14,8 @@ fn same_rows(a: &[plain::Row], b: &[noted::Row]) -> bool {
         })
 }
 
-// The text as it is and the text with notes give the same, bit for bit.
-fn same(a: &Option<plain::Output>, b: &Option<noted::Output>) -> bool {
-    match (a, b) {
-        (None, None) => true,
-        (Some(a), Some(b)) => {
-            bits(&a.lower).eq(bits(&b.lower))
-                && bits(&a.upper).eq(bits(&b.upper))
-                && same_rows(&a.rows, &b.rows)
-                && same_rows(&a.kept, &b.kept)
-                && a.reduced == b.reduced
-                && a.counts == b.counts
-        }
-        _ => false,
-    }
-}
-
-// The bounds by W1. In Mip every finite bound of an integer variable comes from rounding, so none is minus zero; the others must be
-// the given ones, their minus zeros too. No other result was seen to change by it (README.md, 'The sign of zero').
+// The bounds of the text as it is, by W1. In Mip every finite bound of an integer variable comes from rounding, so none is minus
+// zero; the others must be the given ones, their minus zeros too.
 fn plus_zeros(m: &Model, given: &[f64], mut bounds: Vec<f64>) -> Vec<f64> {
     for v in 0..m.vars() {
         if !m.rounds(v) {
@@ -43,11 +27,27 @@ fn plus_zeros(m: &Model, given: &[f64], mut bounds: Vec<f64>) -> Vec<f64> {
     bounds
 }
 
+// The text as it is gives the same, bit for bit: its bounds by W1, and all else as it stands.
+fn same(m: &Model, a: Option<plain::Output>, b: &Option<noted::Output>) -> bool {
+    match (a, b) {
+        (None, None) => true,
+        (Some(a), Some(b)) => {
+            bits(&plus_zeros(m, &m.lower, a.lower)).eq(bits(&b.lower))
+                && bits(&plus_zeros(m, &m.upper, a.upper)).eq(bits(&b.upper))
+                && same_rows(&a.rows, &b.rows)
+                && same_rows(&a.kept, &b.kept)
+                && a.reduced == b.reduced
+                && a.counts == b.counts
+        }
+        _ => false,
+    }
+}
+
 pub fn reference(m: &Model) -> Answer {
     noted::take_notes();
     let result = noted::run(&input!(noted, m));
     let notes = noted::take_notes();
-    assert!(same(&plain::run(&plain_input(m)), &result), "the notes changed an answer:\n{}", m.to_text());
+    assert!(same(m, plain::run(&plain_input(m)), &result), "the notes or W1 changed an answer:\n{}", m.to_text());
     let p = match result {
         None => return Answer::Infeasible(notes.counts),
         Some(p) => p,
@@ -71,8 +71,7 @@ pub fn reference(m: &Model) -> Answer {
         let span = m.starts[r]..m.starts[r + 1];
         assert!(c.indices() == &m.index[span.clone()] && bits(c.data()).eq(bits(&m.coeff[span])) && b.to_bits() == m.rhs[r].to_bits(), "a kept row is as given");
     }
-    let (lower, upper) = (plus_zeros(m, &m.lower, p.lower), plus_zeros(m, &m.upper, p.upper));
-    Answer::Done(Reduced { counts: p.counts, lower, upper, emitted, terms, kept: notes.kept, flag: p.reduced })
+    Answer::Done(Reduced { counts: p.counts, lower: p.lower, upper: p.upper, emitted, terms, kept: notes.kept, flag: p.reduced })
 }
 
 // `reduced_model` gives a model exactly where presolve is done and reduced something.
