@@ -16,8 +16,9 @@ use row_terms::Span;
 mod tell;
 
 // `presolve::presolve`, its answer as a code and numbers, which go to `answer`. All parameters are loose, as C
-// hands them in.
+// hands them in. Not compiled into the wrapper that C calls: a small call takes longer so (docs/PERFORMANCE.md).
 #[unsafe(no_mangle)]
+#[inline(never)]
 pub extern "C" fn suedeonyx_presolve(
     obj: &[f64],
     lower: &[f64],
