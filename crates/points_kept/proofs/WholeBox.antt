@@ -12,7 +12,7 @@ use Rattle.floats.specs.Points.{int, Bounded, Held, ◌⊀◌, Is}
 use Rattle.tolerances.specs.Tol.{Term, at}
 use Rattle.tolerances.specs.Laws.{laws}
 use Rattle.definition.specs.Model.{Model, is_int, Row}
-use Rattle.definition.specs.Work.{Work, Step, drop_row}
+use Rattle.definition.specs.Work.{Work, Step}
 use Rattle.definition.specs.Begin.{crossed, bounds}
 use Rattle.definition.specs.Bounds.{fix, emit_bounds, upper_int, upper_real, tighten_upper, lower_int, lower_real, tighten_lower}
 use Rattle.definition.specs.Singles.{new_lower, new_upper, singleton_int}
@@ -22,9 +22,9 @@ use Rattle.definition.specs.Choices.{both}
 use Rattle.definition.specs.Tests.{test, taking, never, differ}
 use Rattle.rows_kept.specs.Steps.{Each, stopped, went}
 use Rattle.rows_kept.specs.Kept.{Marking}
-use Rattle.rows_kept.proofs.Boxes.{mark_var_lem, mark_tightened_lem}
-use Rattle.rows_kept.specs.States.{Reaches, begins, marks, counted, passes, lowers, raises, singles, forces, fixes, changes, drops}
-use Rattle.rows_kept.proofs.States.{next_is}
+use Rattle.rows_kept.proofs.Boxes.{mark_var_lem, mark_tightened_lem, real_moves}
+use Rattle.rows_kept.specs.States.{Reaches, BoundsKept}
+use Rattle.rows_kept.proofs.States.{bounds_reached}
 use Rattle.points_kept.specs.Statements.{PureInteger}
 use Rattle.points_kept.proofs.Integers.{eq_parts, size_between}
 use Rattle.points_kept.proofs.WholeFloats.{of_nlt}
@@ -105,21 +105,13 @@ module _ (M : Model) where
     -- ---- a variable that is no integer variable is none of the model's
     pub upper_real_lem : (v : ℕ) (nq : Float) (w : Work) → T (not (is_int M v)) → (BoxW M) w → Each (BoxW M) (upper_real M v nq w)
     unfolding upper_real
-    upper_real_lem v nq w i p =
-        both (Each (BoxW M)) _
-        (both (Each (BoxW M)) _ (both (Each (BoxW M)) _ (stopped w refl p) (went p))
-        (went (mark_tightened_lem M marking v _
-        (set_box v p (leaves v w.wlo) (puts v w.whi nq) (leaves v w.elo) (leaves v w.ehi) (λ h. absurd (never (is_int M v) i (int_var M pure v h)))))))
-        (went p)
+    upper_real_lem v nq w i p = real_moves M marking v w _ _ _ _ p
+        (set_box v p (leaves v w.wlo) (puts v w.whi nq) (leaves v w.elo) (leaves v w.ehi) (λ h. absurd (never (is_int M v) i (int_var M pure v h))))
 
     pub lower_real_lem : (v : ℕ) (nq : Float) (w : Work) → T (not (is_int M v)) → (BoxW M) w → Each (BoxW M) (lower_real M v nq w)
     unfolding lower_real
-    lower_real_lem v nq w i p =
-        both (Each (BoxW M)) _
-        (both (Each (BoxW M)) _ (both (Each (BoxW M)) _ (stopped w refl p) (went p))
-        (went (mark_tightened_lem M marking v _
-        (set_box v p (puts v w.wlo nq) (leaves v w.whi) (leaves v w.elo) (leaves v w.ehi) (λ h. absurd (never (is_int M v) i (int_var M pure v h)))))))
-        (went p)
+    lower_real_lem v nq w i p = real_moves M marking v w _ _ _ _ p
+        (set_box v p (puts v w.wlo nq) (leaves v w.whi) (leaves v w.elo) (leaves v w.ehi) (λ h. absurd (never (is_int M v) i (int_var M pure v h))))
 
     pub upper_box : (v : ℕ) (q relax : Float) (w : Work) → (BoxW M) w → Each (BoxW M) (tighten_upper M v q relax w)
     unfolding tighten_upper
@@ -199,16 +191,15 @@ module _ (M : Model) where
         }
 
     -- ---- IN EVERY STATE: each move keeps the box
+    kept : BoundsKept M (Box M)
+    kept = record {
+      begins = λ c b. start_box c (subst (RoundedB M pure) b (round_from_lem M pure (length M.lower) 0 (bounds M.lower M.upper) (omega arith) as_given_lem));
+      lowers = upper_box;
+      raises = lower_box;
+      singles = single_box;
+      forces = λ minCorner w0 w t p q. fix_box t.var _ w (corner_spot minCorner w0 t p) q;
+      fixes = dual_box;
+    }
+
     pub box_reached : {w : Work} → Reaches M w → (BoxW M) w
-    unfolding drop_row
-    box_reached (begins c b e) = start_box c (subst (RoundedB M pure) b (round_from_lem M pure (length M.lower) 0 (bounds M.lower M.upper) (omega arith) as_given_lem))
-    box_reached (marks {w} d c q h) = box_reached h
-    box_reached (counted {w} a b c h) = box_reached h
-    box_reached (passes {w} h) = box_reached h
-    box_reached (lowers {w} v q relax e h) = next_is (subst (Each (BoxW M)) e (upper_box v q relax w (box_reached h)))
-    box_reached (raises {w} v q relax e h) = next_is (subst (Each (BoxW M)) e (lower_box v q relax w (box_reached h)))
-    box_reached (singles {w} r row v a blo bhi i e h) = next_is (subst (Each (BoxW M)) e (single_box r row v a blo bhi w (box_reached h)))
-    box_reached (forces {w0} {w} minCorner t i g h) = fix_box t.var _ w (corner_spot minCorner w0 t (box_reached g)) (box_reached h)
-    box_reached (fixes {w} dec inc v changed h) = dual_box dec inc v w changed (box_reached h)
-    box_reached (changes {w} r row a c h) = box_reached h
-    box_reached (drops {w} r row g a h) = box_reached h
+    box_reached h = bounds_reached kept h

@@ -11,7 +11,7 @@ use Rattle.floats.specs.Num.{choose, ◌⊖◌, ◌⊗◌, gt, ge, 0f, is_finite
 use Rattle.tolerances.specs.Tol.{Term, at, ROUNDOFF_FLOOR}
 use Rattle.definition.specs.declared.Activity.{Activity}
 use Rattle.definition.specs.Model.{Model, is_int, Row}
-use Rattle.definition.specs.Work.{Work, with_bounds, fixed, budget}
+use Rattle.definition.specs.Work.{Work, with_bounds, stop, next, fixed, budget}
 use Rattle.definition.specs.Marks.{mark_row, adjacent, mark_from, mark_var}
 use Rattle.definition.specs.Bounds.{fix, mark_tightened, emit_bounds, upper_int, upper_real, tighten_upper, lower_int, lower_real, tighten_lower}
 use Rattle.definition.specs.Singles.{new_lower, new_upper, singleton_int, singleton_bounds}
@@ -43,6 +43,13 @@ module _ (M : Model) {P : Work → Type 0} (K : Marking P) where
   pub mark_tightened_lem : (v : ℕ) (w : Work) → P w → P (mark_tightened M v w)
   unfolding mark_tightened
   mark_tightened_lem v w p = mark_var_lem v _ (K.counted w _ _ _ p)
+
+  -- a bound that may move, as the definition has it: x is the state with it moved. Of an integer variable, and of any other, where a crossing within its tolerance changes nothing
+  pub int_moves : (v : ℕ) (w x : Work) (a b : Bool) → P w → P x → Each P (choose a (choose b (stop w.counts) (next (mark_tightened M v x))) (next w))
+  int_moves v w x a b p q = both (Each P) a (both (Each P) b (stopped w refl p) (went (mark_tightened_lem v x q))) (went p)
+
+  pub real_moves : (v : ℕ) (w x : Work) (a b c : Bool) → P w → P x → Each P (choose a (choose b (choose c (stop w.counts) (next w)) (next (mark_tightened M v x))) (next w))
+  real_moves v w x a b c p q = both (Each P) a (both (Each P) b (both (Each P) c (stopped w refl p) (went p)) (went (mark_tightened_lem v x q))) (went p)
 
 pub boxing : {P : Work → Type 0} {l h : List Float} → Marking P → Marking (Box P l h)
 boxing K =
@@ -120,17 +127,11 @@ module _ (M : Model) {P : Work → Type 0} (K : Bounding M P) where
 
   pub upper_real_lem : (v : ℕ) (nq : Float) (w : Work) → P w → Each P (upper_real M v nq w)
   unfolding upper_real
-  upper_real_lem v nq w p =
-      both (Each P) _
-      (both (Each P) _ (both (Each P) _ (stopped w refl p) (went p)) (went (mark_tightened_lem M K.marking v _ (K.works w _ _ p))))
-      (went p)
+  upper_real_lem v nq w p = real_moves M K.marking v w _ _ _ _ p (K.works w _ _ p)
 
   pub lower_real_lem : (v : ℕ) (nq : Float) (w : Work) → P w → Each P (lower_real M v nq w)
   unfolding lower_real
-  lower_real_lem v nq w p =
-      both (Each P) _
-      (both (Each P) _ (both (Each P) _ (stopped w refl p) (went p)) (went (mark_tightened_lem M K.marking v _ (K.works w _ _ p))))
-      (went p)
+  lower_real_lem v nq w p = real_moves M K.marking v w _ _ _ _ p (K.works w _ _ p)
 
   pub upper_kept : (v : ℕ) (q relax : Float) (w : Work) → P w → Each P (tighten_upper M v q relax w)
   unfolding tighten_upper

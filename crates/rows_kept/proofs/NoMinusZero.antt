@@ -9,7 +9,7 @@ use Rattle.std.specs.Float.Ieee.{is_nan, lt}
 use Rattle.floats.specs.Num.{◌⊕◌, ◌⊖◌, is_finite, plus_zero, floor, ceil, maxf, minf}
 use Rattle.tolerances.specs.Tol.{Term, at}
 use Rattle.definition.specs.Model.{Model, is_int, Row, Reduced, done}
-use Rattle.definition.specs.Work.{Work, drop_row}
+use Rattle.definition.specs.Work.{Work}
 use Rattle.definition.specs.Begin.{rounded_lower, rounded_upper, Bounds, cross, bounds, round_var, round_from}
 use Rattle.definition.specs.Bounds.{fix, emit_bounds, upper_int, upper_real, tighten_upper, lower_int, lower_real, tighten_lower}
 use Rattle.definition.specs.Singles.{new_lower, new_upper, singleton_int}
@@ -19,9 +19,9 @@ use Rattle.definition.specs.Presolve.{presolve}
 use Rattle.definition.specs.Choices.{both, taking, true≢false}
 use Rattle.rows_kept.specs.Steps.{Each, stopped, went}
 use Rattle.rows_kept.specs.Kept.{Marking}
-use Rattle.rows_kept.proofs.Boxes.{mark_var_lem, mark_tightened_lem}
-use Rattle.rows_kept.specs.States.{Reaches, begins, marks, counted, passes, lowers, raises, singles, forces, fixes, changes, drops, Answered, reduced_to}
-use Rattle.rows_kept.proofs.States.{next_is, answer_reached}
+use Rattle.rows_kept.proofs.Boxes.{mark_var_lem, int_moves, real_moves}
+use Rattle.rows_kept.specs.States.{BoundsKept, Answered, reduced_to}
+use Rattle.rows_kept.proofs.States.{bounds_reached, answer_reached}
 use Rattle.rows_kept.specs.NoMinusZero.{minus_zero, Clean, CleanBelow, CleanBounds, CleanState}
 
 -- ---- where a bound comes from
@@ -132,51 +132,32 @@ module _ (M : Model) where
 
   upper_int_clean : (v : ℕ) (x : Float) (w : Work) → Clean x → CleanState M w → Each (CleanState M) (upper_int M v x w)
   unfolding upper_int
-  upper_int_clean v x w h p = both (Each (CleanState M)) _
-      (both (Each (CleanState M)) _ (stopped w refl p)
-      (went (mark_tightened_lem M marking v _ (record {
-        working_lower = p.working_lower;
-        working_upper = clean_set w.whi v _ (λ k i. min_clean (at w.whi v) x (p.working_upper v k i) h) p.working_upper;
-        lower = p.lower;
-        upper = clean_set w.ehi v x (λ k i. h) p.upper;
-      }))))
-      (went p)
+  upper_int_clean v x w h p = int_moves M marking v w _ _ _ p (record {
+    working_lower = p.working_lower;
+    working_upper = clean_set w.whi v _ (λ k i. min_clean (at w.whi v) x (p.working_upper v k i) h) p.working_upper;
+    lower = p.lower;
+    upper = clean_set w.ehi v x (λ k i. h) p.upper;
+  })
 
   lower_int_clean : (v : ℕ) (x : Float) (w : Work) → Clean x → CleanState M w → Each (CleanState M) (lower_int M v x w)
   unfolding lower_int
-  lower_int_clean v x w h p = both (Each (CleanState M)) _
-      (both (Each (CleanState M)) _ (stopped w refl p)
-      (went (mark_tightened_lem M marking v _ (record {
-        working_lower = clean_set w.wlo v _ (λ k i. max_clean (at w.wlo v) x (p.working_lower v k i) h) p.working_lower;
-        working_upper = p.working_upper;
-        lower = clean_set w.elo v x (λ k i. h) p.lower;
-        upper = p.upper;
-      }))))
-      (went p)
+  lower_int_clean v x w h p = int_moves M marking v w _ _ _ p (record {
+    working_lower = clean_set w.wlo v _ (λ k i. max_clean (at w.wlo v) x (p.working_lower v k i) h) p.working_lower;
+    working_upper = p.working_upper;
+    lower = clean_set w.elo v x (λ k i. h) p.lower;
+    upper = p.upper;
+  })
 
+  -- a variable that is no integer variable is none of those
   upper_real_clean : (v : ℕ) (x : Float) (w : Work) → is_int M v ≡ false → CleanState M w → Each (CleanState M) (upper_real M v x w)
   unfolding upper_real
-  upper_real_clean v x w r p = both (Each (CleanState M)) _
-      (both (Each (CleanState M)) _ (both (Each (CleanState M)) _ (stopped w refl p) (went p))
-      (went (mark_tightened_lem M marking v _ (record {
-        working_lower = p.working_lower;
-        working_upper = clean_set w.whi v x (λ k i. true≢false i r) p.working_upper;
-        lower = p.lower;
-        upper = p.upper;
-      }))))
-      (went p)
+  upper_real_clean v x w r p = real_moves M marking v w _ _ _ _ p
+      (record { working_lower = p.working_lower; working_upper = clean_set w.whi v x (λ k i. true≢false i r) p.working_upper; lower = p.lower; upper = p.upper })
 
   lower_real_clean : (v : ℕ) (x : Float) (w : Work) → is_int M v ≡ false → CleanState M w → Each (CleanState M) (lower_real M v x w)
   unfolding lower_real
-  lower_real_clean v x w r p = both (Each (CleanState M)) _
-      (both (Each (CleanState M)) _ (both (Each (CleanState M)) _ (stopped w refl p) (went p))
-      (went (mark_tightened_lem M marking v _ (record {
-        working_lower = clean_set w.wlo v x (λ k i. true≢false i r) p.working_lower;
-        working_upper = p.working_upper;
-        lower = p.lower;
-        upper = p.upper;
-      }))))
-      (went p)
+  lower_real_clean v x w r p = real_moves M marking v w _ _ _ _ p
+      (record { working_lower = clean_set w.wlo v x (λ k i. true≢false i r) p.working_lower; working_upper = p.working_upper; lower = p.lower; upper = p.upper })
 
   upper_clean_step : (v : ℕ) (q relax : Float) (w : Work) → CleanState M w → Each (CleanState M) (tighten_upper M v q relax w)
   unfolding tighten_upper
@@ -220,31 +201,28 @@ module _ (M : Model) where
       let Q : Work × Bool → Type 0 = λ x. CleanState M x.0 in
       both Q _ p (both Q _ (fix_clean v _ w (p.working_lower v) p) (both Q _ (fix_clean v _ w (p.working_upper v) p) p))
 
-  -- ---- IN EVERY STATE
-  pub clean_reached : {w : Work} → Reaches M w → CleanState M w
-  unfolding drop_row
-  clean_reached (begins c b e) = started (subst (Round (length M.lower)) b all)
+  -- ---- the start
+  rounds_all : Round (length M.lower) (round_from M (length M.lower) 0 (bounds M.lower M.upper))
+  rounds_all = subst (λ (n : ℕ). Round n (round_from M (length M.lower) 0 (bounds M.lower M.upper))) (zero-add (length M.lower))
+      (from_rounds (length M.lower) 0 (bounds M.lower M.upper) (rounds_to (none M.lower) (none M.upper)))
     where
       none : (l : List Float) → CleanBelow M 0 l
       none l v k i = absurd (omega arith)
 
-      all : Round (length M.lower) (round_from M (length M.lower) 0 (bounds M.lower M.upper))
-      all = subst (λ (n : ℕ). Round n (round_from M (length M.lower) 0 (bounds M.lower M.upper))) (zero-add (length M.lower))
-          (from_rounds (length M.lower) 0 (bounds M.lower M.upper) (rounds_to (none M.lower) (none M.upper)))
-  clean_reached (marks {w} d c q h) = clean_reached h
-  clean_reached (counted {w} a b c h) = clean_reached h
-  clean_reached (passes {w} h) = clean_reached h
-  clean_reached (lowers {w} v q relax e h) = next_is (subst (Each (CleanState M)) e (upper_clean_step v q relax w (clean_reached h)))
-  clean_reached (raises {w} v q relax e h) = next_is (subst (Each (CleanState M)) e (lower_clean_step v q relax w (clean_reached h)))
-  clean_reached (singles {w} r row v a blo bhi i e h) = next_is (subst (Each (CleanState M)) e (single_clean r row v a blo bhi w (clean_reached h)))
-  clean_reached (forces {w0} {w} minCorner t i g h) = fix_clean t.var _ w (corner_clean minCorner w0 t (clean_reached g)) (clean_reached h)
-  clean_reached (fixes {w} dec inc v changed h) = dual_clean dec inc v w changed (clean_reached h)
-  clean_reached (changes {w} r row a c h) = clean_reached h
-  clean_reached (drops {w} r row g a h) = clean_reached h
+  -- ---- IN EVERY STATE
+  kept : BoundsKept M (CleanBounds M)
+  kept = record {
+    begins = λ c b. started (subst (Round (length M.lower)) b rounds_all);
+    lowers = upper_clean_step;
+    raises = lower_clean_step;
+    singles = single_clean;
+    forces = λ minCorner w0 w t p q. fix_clean t.var _ w (corner_clean minCorner w0 t p) q;
+    fixes = dual_clean;
+  }
 
   -- so in the answer
   pub clean_answer : {R : Reduced} → presolve M ≡ done R → CleanBelow M (length M.lower) R.lower × CleanBelow M (length M.lower) R.upper
   clean_answer e = of_done (subst (Answered M) e (answer_reached M))
     where
       of_done : {R : Reduced} → Answered M (done R) → CleanBelow M (length M.lower) R.lower × CleanBelow M (length M.lower) R.upper
-      of_done (reduced_to w o h) = let p = clean_reached h in (p.lower, p.upper)
+      of_done (reduced_to w o h) = let p = bounds_reached kept h in (p.lower, p.upper)

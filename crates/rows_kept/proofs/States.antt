@@ -38,7 +38,7 @@ use Rattle.rows_kept.specs.Outs.{Ends, failed, ended, Going}
 use Rattle.rows_kept.proofs.Outs.{from_ends, goes_kept}
 use Rattle.rows_kept.specs.Whole.{Read, ReadR, reads, unread, begun}
 use Rattle.rows_kept.proofs.Whole.{read_from_lem}
-use Rattle.rows_kept.specs.States.{Answered, Halts, I, On, Reaches, at_turn, before, begins, changes, counted, drops}
+use Rattle.rows_kept.specs.States.{Answered, BoundsKept, OfBounds, Halts, I, On, Reaches, at_turn, before, begins, changes, counted, drops}
 use Rattle.rows_kept.specs.States.{fixes, forces, found_infeasible, goes, halts, lowers, marks, passes, raises, reduced_to, singles}
 
 pub next_is : {P : Work → Type 0} {w : Work} → Each P (next w) → P w
@@ -66,6 +66,21 @@ module _ (M : Model) {P : Work → Type 0} (K : Kept M P) (pass : (w : Work) →
   reached_kept (fixes {w} dec inc v changed h) = dual_var_lem M K.bounding dec inc v w changed (reached_kept h)
   reached_kept (changes {w} r row a c h) = K.rowing.changes w r row a c (reached_kept h)
   reached_kept (drops {w} r row g a h) = K.rowing.drops w r row g a (reached_kept h)
+
+-- ---- AND SO DOES WHAT THE MOVES OF BOUNDS KEEP: nothing else changes a bound
+pub bounds_reached : {M : Model} {P : List Float → List Float → List Float → List Float → Type 0} {w : Work} → BoundsKept M P → Reaches M w → OfBounds P w
+unfolding drop_row
+bounds_reached K (begins c b e) = K.begins c b
+bounds_reached K (marks {w} d c q h) = bounds_reached K h
+bounds_reached K (counted {w} a b c h) = bounds_reached K h
+bounds_reached K (passes {w} h) = bounds_reached K h
+bounds_reached {P = P} K (lowers {w} v q relax e h) = next_is (subst (Each (OfBounds P)) e (K.lowers v q relax w (bounds_reached K h)))
+bounds_reached {P = P} K (raises {w} v q relax e h) = next_is (subst (Each (OfBounds P)) e (K.raises v q relax w (bounds_reached K h)))
+bounds_reached {P = P} K (singles {w} r row v a blo bhi i e h) = next_is (subst (Each (OfBounds P)) e (K.singles r row v a blo bhi w (bounds_reached K h)))
+bounds_reached K (forces {w0} {w} minCorner t i g h) = K.forces minCorner w0 w t (bounds_reached K g) (bounds_reached K h)
+bounds_reached K (fixes {w} dec inc v changed h) = K.fixes dec inc v w changed (bounds_reached K h)
+bounds_reached K (changes {w} r row a c h) = bounds_reached K h
+bounds_reached K (drops {w} r row g a h) = bounds_reached K h
 
 pub moved : {P : Work → Type 0} {w : Work} {s : Step} → Halts w s → P w → ((x : Work) → s ≡ next x → P x) → Each P s
 moved {w = w} halts p f = stopped w refl p

@@ -43,6 +43,18 @@ pub data Reaches (M : Model) : Work → Type 0 where
   changes : {w : Work} (r : ℕ) (row : Row) → (get_or w.rows r no_row).alive ≡ true → Changed M r (get_or w.rows r no_row) row → Reaches M w → Reaches M (with_row r row w)
   drops : {w : Work} (r : ℕ) (row : Row) → get_or w.rows r no_row ≡ row → row.alive ≡ true → Reaches M w → Reaches M (drop_row r row w)
 
+-- ---- a property of the four lists of bounds alone, working and emitted, that each move of a bound keeps
+abbrev pub OfBounds : (List Float → List Float → List Float → List Float → Type 0) → Work → Type 0
+OfBounds P w = P w.wlo w.whi w.elo w.ehi
+
+pub record BoundsKept (M : Model) (P : List Float → List Float → List Float → List Float → Type 0) : Type 0 where
+  pub begins : {ls hs : List Float} → crossed M.lower M.upper ≡ false → round_from M (length M.lower) 0 (bounds M.lower M.upper) ≡ bounds ls hs → P ls hs ls hs
+  pub lowers : (v : ℕ) (q relax : Float) (w : Work) → OfBounds P w → Each (OfBounds P) (tighten_upper M v q relax w)
+  pub raises : (v : ℕ) (q relax : Float) (w : Work) → OfBounds P w → Each (OfBounds P) (tighten_lower M v q relax w)
+  pub singles : (r : ℕ) (row : Row) (v : ℕ) (a blo bhi : Float) (w : Work) → OfBounds P w → Each (OfBounds P) (singleton_int M r row v a blo bhi w)
+  pub forces : (minCorner : Bool) (w0 w : Work) (t : Term) → OfBounds P w0 → OfBounds P w → OfBounds P (fix M t.var (corner minCorner w0 t) w)
+  pub fixes : (dec inc : List Bool) (v : ℕ) (w : Work) (changed : Bool) → OfBounds P w → OfBounds P (dual_var M dec inc v w changed).0
+
 -- ---- a step that moves one bound stops, if it does, with the counts that it was given
 pub data Halts (w : Work) : Step → Type 0 where
   halts : Halts w (stop w.counts)
