@@ -160,7 +160,9 @@ def edges():
     yield "le-inf", file_of([P], [([(0, TWO)], LE, INF)], mode=0), ["answer reduced", "counts 1 0 0 0 0"] + bound_lines([(ZERO, TEN)]), "<= +infinity is trivially true: dropped, never validated"
     yield "ge-minus-inf", file_of([P], [([(0, TWO)], GE, INF | SIGN)], mode=0), ["answer reduced", "counts 1 0 0 0 0"] + bound_lines([(ZERO, TEN)]), ">= -infinity likewise"
     yield "open-upper", file_of([(REAL, ZERO, INF | SIGN, INF)], []), ["answer unchanged", "counts 0 0 0 0 0"] + bound_lines([(INF | SIGN, INF)]), "open bounds; a Real variable keeps what it was given"
-    yield "boolean-open", file_of([(BOOLEAN, ZERO, ZERO, INF)], [], mode=0), ["answer unchanged", "counts 0 0 0 0 0"] + bound_lines([(ZERO, INF)]), "an absent upper bound is open, of a Boolean too"
+    absent = [(domain, ZERO, ZERO, model.absent_upper(domain)) for domain in (INTEGER, REAL, BOOLEAN)]
+    yield "absent-upper", file_of(absent, [], mode=0), ["answer unchanged", "counts 0 0 0 0 0"] + bound_lines([(ZERO, INF), (ZERO, INF), (ZERO, ONE)]), "an absent upper bound is open, and 1 of a Boolean"
+    yield "boolean-open", file_of([(BOOLEAN, ZERO, ZERO, INF)], [], mode=0), ["answer unchanged", "counts 0 0 0 0 0"] + bound_lines([(ZERO, INF)]), "a Boolean's upper bound of +infinity is given, and stays"
     yield "crossed", file_of([(REAL, ZERO, TEN, ZERO)], []), ["answer infeasible", "counts 0 0 0 0 0"], "crossed bounds are infeasible, and no refusal"
     given = [(bits_of(float(-k - 1)), bits_of(float(k + 1))) for k in range(128)]
     yield "longest", longest(), ["answer reduced", "counts 128 0 0 0 0"] + bound_lines(given), "9,749 bytes, the longest file there is: 128 variables, 128 rows <= +infinity, 512 terms"

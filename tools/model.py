@@ -27,7 +27,7 @@ Names are letters, digits, _ and dots, and do not start with a digit. A variable
 A term with coefficient 0 is kept; terms may come in any order and are written in the order of the variables.
 Numbers are decimal (the nearest float is meant), inf, nan, or bits:3ff0000000000000, the 16 digits that answers have.
 -0 is not 0. A boolean's bounds are 0 or 1; where a file has others, 'wide' after them says that they are meant. A text that presolve
-would refuse has a fault, which is named with its line. In the file an objective or lower bound of 0, an open upper bound and a right side of 0 are left out.
+would refuse has a fault, which is named with its line. In the file an objective or lower bound of 0, an upper bound of 1 of a boolean, an open one of the others and a right side of 0 are left out.
 
 Exit status: 0; 1 for a text, file or answer with a fault, which is named with its line; 2 for wrong usage.
 """
@@ -60,7 +60,7 @@ def float_of(bits):
 
 
 SIGN = 1 << 63
-ZERO, INF, NAN = 0, 0x7FF0000000000000, 0x7FF8000000000000
+ZERO, ONE, INF, NAN = 0, 0x3FF0000000000000, 0x7FF0000000000000, 0x7FF8000000000000
 
 
 def is_nan(bits):
@@ -118,10 +118,15 @@ def signed(text):
 
 
 # ---- a model
+def absent_upper(domain):
+    """The upper bound of a variable that is given none, in a file and in a text: 1 of a Boolean, else open."""
+    return ONE if domain == 2 else INF
+
+
 class Variable:
-    def __init__(self, name, domain, objective=ZERO, lower=ZERO, upper=INF, line=None):
+    def __init__(self, name, domain, objective=ZERO, lower=ZERO, upper=None, line=None):
         self.name, self.domain = name, domain
-        self.objective, self.lower, self.upper = objective, lower, upper
+        self.objective, self.lower, self.upper = objective, lower, absent_upper(domain) if upper is None else upper
         self.line = line  # of the text that it was read from
 
 
@@ -152,7 +157,7 @@ def float_bytes(bits):
 
 
 def variable_bytes(v):
-    parts = [(1, v.objective, ZERO), (2, v.lower, ZERO), (4, v.upper, INF)]
+    parts = [(1, v.objective, ZERO), (2, v.lower, ZERO), (4, v.upper, absent_upper(v.domain))]
     here = [(bit, x) for bit, x, absent in parts if x != absent]
     return bytes([sum(bit for bit, _ in here) + 8 * v.domain]) + b"".join(float_bytes(x) for _, x in here)
 
@@ -374,8 +379,6 @@ class Reader:
         if not words or words[0] not in DOMAINS:
             raise Fault("%s, where DOMAIN is integer, real or boolean" % form)
         v = Variable(name, DOMAINS.index(words.pop(0)), line=self.at)
-        if v.domain == 2:
-            v.upper = bits_of(1.0)
         if len(words) >= 3 and words[1] == "to":
             v.lower, v.upper = self.value(words[0]), self.value(words[2])
             words = words[3:]

@@ -1,5 +1,10 @@
 // 01's model file and printed result, written from the paper: a second encoder and printer.
-use crate::model::{Answer, Model};
+use crate::model::{Answer, Model, BOOLEAN};
+
+// The upper bound that a file leaves out, by 02's W6: 1 of a Boolean, none of the others.
+fn absent_upper(domain: u8) -> f64 {
+    if domain == BOOLEAN { 1.0 } else { f64::INFINITY }
+}
 
 // The bytes of a model file. What equals its default is left out, unless `explicit`.
 pub fn file(m: &Model, explicit: bool) -> Vec<u8> {
@@ -10,7 +15,7 @@ pub fn file(m: &Model, explicit: bool) -> Vec<u8> {
     b.extend(m.int_tol.to_bits().to_le_bytes());
     b.push(m.mode);
     for v in 0..m.vars() {
-        let parts = [(m.obj[v], 0.0f64), (m.lower[v], 0.0), (m.upper[v], f64::INFINITY)];
+        let parts = [(m.obj[v], 0.0f64), (m.lower[v], 0.0), (m.upper[v], absent_upper(m.domain[v]))];
         let present = |k: usize| explicit || parts[k].0.to_bits() != parts[k].1.to_bits();
         let map = (0..3).map(|k| (present(k) as u8) << k).sum::<u8>() | m.domain[v] << 3;
         b.push(map);
@@ -99,7 +104,7 @@ pub fn read(bytes: &[u8]) -> Result<Model, u8> {
             return Err(12);
         }
         let mut part = |bit: u8, default: f64| if map >> bit & 1 == 1 { take(8).map(float) } else { Ok(default) };
-        let (obj, lower, upper) = (part(0, 0.0)?, part(1, 0.0)?, part(2, f64::INFINITY)?);
+        let (obj, lower, upper) = (part(0, 0.0)?, part(1, 0.0)?, part(2, absent_upper(map >> 3 & 3))?);
         m.var(map >> 3 & 3, lower, upper, obj);
     }
     for _ in 0..rows {

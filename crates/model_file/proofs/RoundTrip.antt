@@ -5,12 +5,12 @@ use Rattle.std.proofs.lemmas.List.{length-map}
 use Rattle.std.specs.Float.{binary64}
 use Rattle.std.specs.Float.Ieee.{to_bits}
 use Rattle.std.specs.Float.Ieee.Bits.{of_bits-to_bits, to_bits-lt}
-use Rattle.floats.specs.Num.{0f, ∞f}
+use Rattle.floats.specs.Num.{0f}
 use Rattle.model_file.specs.declared.Variable.{Variable}
 use Rattle.model_file.specs.declared.Term.{Term}
 use Rattle.model_file.specs.declared.RowHead.{RowHead}
 use Rattle.model_file.specs.declared.Settings.{Settings}
-use Rattle.model_file.specs.Format.{got, Parser, byte, number, float, optional, count, code, rules, settings, values, variable, side, head}
+use Rattle.model_file.specs.Format.{got, Parser, byte, number, float, optional, count, code, rules, settings, absent_upper, values, variable, side, head}
 use Rattle.model_file.specs.Format.{term, many, row, Row, rows, ends, all_terms, Lists, lists, end, whole, file, decoded, decode}
 use Rattle.model_file.specs.Places.{then_got, refuse_no, optional_present}
 use Rattle.model_file.specs.Encode.{bytes_of, float_bytes, each, variable_bytes, term_bytes, row_bytes, variables_of, terms_of}
@@ -52,7 +52,7 @@ variable_back v s k =
     ∙ then_got _ (refuse_no 12 _ (le-ltb 2 (m / 8 % 4) (omega (arith, k.domain))))
     ∙ then_got _ (optional_back 0f v.objective _ (eq-eqb (m / 1 % 2) 1 (omega arith)) k.objective)
     ∙ then_got _ (optional_back 0f v.lower _ (eq-eqb (m / 2 % 2) 1 (omega arith)) k.lower)
-    ∙ then_got _ (optional_back ∞f v.upper s (eq-eqb (m / 4 % 2) 1 (omega arith)) k.upper)
+    ∙ then_got _ (optional_back (absent_upper (m / 8 % 4)) v.upper s (eq-eqb (m / 4 % 2) 1 (omega arith)) k.upper)
     ∙ ap (λ (d : ℕ). got (record { objective = v.objective; lower = v.lower; upper = v.upper; domain = d }) s) z
 
 -- ---- many

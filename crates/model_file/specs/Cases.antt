@@ -2,8 +2,8 @@
 use Rattle.std.specs.Prelude.{ℕ, ◌≡◌, refl, List, [], ◌∷◌, ◌++◌, map}
 use Rattle.std.specs.Float.{binary64}
 use Rattle.std.specs.Float.Ieee.{of_bits}
-use Rattle.floats.specs.Num.{0f}
-use Rattle.model_file.specs.Format.{refusal, file, and_then, refuse, many, byte, number, float, optional, count, code, rules, settings, values}
+use Rattle.floats.specs.Num.{choose, 0f, 1f, ∞f}
+use Rattle.model_file.specs.Format.{refusal, file, and_then, refuse, many, byte, number, float, optional, count, code, rules, settings, absent_upper, values}
 use Rattle.model_file.specs.Format.{variable, side, head, term, row, rows, ends, all_terms, lists, end, whole, decoded, decode}
 
 -- 1e-6 and 1e-9, as a file has them
@@ -36,6 +36,29 @@ pub case_1_is :
     })
 unfolding and_then refuse many byte number float optional count code rules settings values variable side head term row rows ends all_terms lists end whole decoded decode of_bits
 case_1_is = refl
+
+-- an Integer, a Real and a Boolean without an upper bound, and a Boolean whose upper bound is given: +infinity
+abbrev no_upper : List ℕ
+no_upper = begin 4 0 0 ++ (0 ∷ 8 ∷ 16 ∷ 20 ∷ 0 ∷ 0 ∷ 0 ∷ 0 ∷ 0 ∷ 0 ∷ 240 ∷ 127 ∷ [])
+
+pub no_upper_is :
+    decode no_upper
+    ≡ file (record {
+      objective = 0f ∷ 0f ∷ 0f ∷ 0f ∷ [];
+      lower = 0f ∷ 0f ∷ 0f ∷ 0f ∷ [];
+      upper = ∞f ∷ ∞f ∷ 1f ∷ ∞f ∷ [];
+      domain = 0 ∷ 1 ∷ 2 ∷ 2 ∷ [];
+      starts = 0 ∷ [];
+      index = [];
+      coeff = [];
+      cmp = [];
+      rhs = [];
+      mode = 0;
+      feasibility = of_bits binary64 0x3eb0c6f7a0b5ed8d;
+      int_tol = of_bits binary64 0x3e112e0be826d695;
+    })
+unfolding and_then refuse many byte number float optional count code rules settings absent_upper choose values variable side head term row rows ends all_terms lists end whole decoded decode of_bits
+no_upper_is = refl
 
 -- files that are refused
 abbrev damaged : List (List ℕ)

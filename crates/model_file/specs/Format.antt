@@ -10,7 +10,7 @@
 use Rattle.std.specs.Prelude.{ℕ, zero, suc, ◌+◌, ◌*◌, ◌/◌, ◌%◌, ◌^◌, List, [], ◌∷◌, ◌++◌, map, Bool, true, false, ltb, eqb, Float}
 use Rattle.std.specs.Float.{binary64}
 use Rattle.std.specs.Float.Ieee.{of_bits}
-use Rattle.floats.specs.Num.{0f, ∞f}
+use Rattle.floats.specs.Num.{choose, 0f, 1f, ∞f}
 use Rattle.model_file.specs.declared.Variable.{Variable}
 use Rattle.model_file.specs.declared.Term.{Term}
 use Rattle.model_file.specs.declared.RowHead.{RowHead}
@@ -105,11 +105,16 @@ settings = do
   rules vars rows
 
 -- ---- a variable: its map, then the floats that it announces. Bits 0, 1, 2 announce objective, lower and upper, bits 3 and 4 are the domain, 5 to 7 are zero
+
+-- an absent upper bound: 1 of a Boolean, open of the other domains
+unfoldable pub absent_upper : ℕ → Float
+absent_upper domain = choose (eqb domain 2) 1f ∞f
+
 unfoldable pub values : ℕ → Parser Variable
 values m = do
   objective ← optional (bit 0 m) 0f
   lower ← optional (bit 1 m) 0f
-  upper ← optional (bit 2 m) ∞f
+  upper ← optional (bit 2 m) (absent_upper (m / 8 % 4))
   done (record { objective = objective; lower = lower; upper = upper; domain = m / 8 % 4 })
 
 unfoldable pub variable : Parser Variable

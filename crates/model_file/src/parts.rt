@@ -1,6 +1,6 @@
 // The parts of the file, each by value.
 ghost use Rattle.std.specs.Prelude.{◌≡◌, ◌≤◌, ◌<◌, ◌+◌, ◌/◌, ◌%◌, ℕ, IfOk, eqb};
-ghost use Rattle.model_file.specs.Format.{Parser, values, variable, side, head, term, rules, settings};
+ghost use Rattle.model_file.specs.Format.{Parser, absent_upper, values, variable, side, head, term, rules, settings};
 ghost use Rattle.model_file.specs.Places.{answered};
 ghost use Rattle.model_file.specs.Reading.{Slices, SameSlices, lent};
 ghost use Rattle.model_file.specs.Fills.{Sizes, sizes, VarPlace, TermPlace, put_var, put_term, sizes_var, sizes_term};
@@ -14,6 +14,14 @@ fn bit(map: u8, weight: u8) -> bool
     ensures { result ≡ eqb (map / weight % 2) 1 }
 {
     map / weight % 2 == 1
+}
+
+// What an upper bound is that the file leaves out: 1 of a Boolean, as exporters mean it, and open of the others.
+#[tactic(auto, unfolding(floats::specs::Num::choose, crate::specs::Format::absent_upper))]
+fn absent_upper(domain: u8) -> f64
+    ensures { result ≡ absent_upper domain }
+{
+    if domain == 2 { 1.0 } else { floats::infinity() }
 }
 
 // A part of which a file has many: how it is read, and where it goes.
@@ -91,12 +99,13 @@ impl<'a> Reader<'a> {
     {
         let objective = self.optional(bit(map, 1), 0.0)?;
         let lower = self.optional(bit(map, 2), 0.0)?;
-        let upper = self.optional(bit(map, 4), floats::infinity())?;
+        let domain = map / 8 % 4;
+        let upper = self.optional(bit(map, 4), absent_upper(domain))?;
         Ok(Variable {
             objective,
             lower,
             upper,
-            domain: map / 8 % 4,
+            domain,
         })
     }
 

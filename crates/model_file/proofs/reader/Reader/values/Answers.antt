@@ -20,10 +20,10 @@ unfolding values
 returns-in_err-upper c = failed _ _ _ c.from_residual-in_err-upper.ensures.1 (
     then_got _ (optional_is _ c.bit.ensures refl c.in_ok-objective.ensures)
     ∙ then_got _ (optional_is _ c.bit-2.ensures refl c.in_ok-lower.ensures)
-    ∙ then_refused _ (optional_is _ c.bit-3.ensures c.infinity.ensures c.in_err-upper.ensures))
+    ∙ then_refused _ (optional_is _ c.bit-3.ensures c.absent_upper.ensures c.in_err-upper.ensures))
 
 pub returns : goal.returns
 unfolding values
 returns c = then_got _ (optional_is _ c.bit.ensures refl c.in_ok-objective.ensures)
     ∙ then_got _ (optional_is _ c.bit-2.ensures refl c.in_ok-lower.ensures)
-    ∙ then_got _ (optional_is _ c.bit-3.ensures c.infinity.ensures c.in_ok-upper.ensures)
+    ∙ then_got _ (optional_is _ c.bit-3.ensures c.absent_upper.ensures c.in_ok-upper.ensures)
