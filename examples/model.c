@@ -44,6 +44,14 @@ int main(void) {
     none.rhs = most, none.cmp = at_least;
     show("3u + w >= 12", &none, sizeof buffer);
 
+    static double zeros[257], ones[257];
+    static uint8_t boolean[257];
+    static size_t all[257];
+    for (size_t k = 0; k < 257; k++) ones[k] = 1, boolean[k] = PRESOLVE_BOOLEAN, all[k] = k;
+    const size_t one_row[ROWS + 1] = {0, 257};
+    presolve_model row = {257, ROWS, 257, zeros, zeros, ones, boolean, one_row, all, ones, cmp, rhs, PRESOLVE_MIP, 1e-6, 1e-9};
+    show("a row of 257 terms, in a buffer for 2", &row, sizeof buffer);
+
     presolve_model wrong = m;
     wrong.int_tol = 0.51;
     show("int_tol 0.51", &wrong, sizeof buffer);

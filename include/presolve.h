@@ -30,8 +30,8 @@ enum { PRESOLVE_EQ = 0, PRESOLVE_LE = 1, PRESOLVE_GE = 2 };                 /* c
 enum { PRESOLVE_LP = 0, PRESOLVE_MIP = 1, PRESOLVE_MIP_DUAL = 2 };          /* modes: the last with dual fixing */
 enum { PRESOLVE_WRITTEN = 0, PRESOLVE_REWRITTEN = 1 };                      /* marks of emitted rows */
 
-/* The largest counts. */
-enum { PRESOLVE_MAX_VARS = 4096, PRESOLVE_MAX_ROWS = 8192, PRESOLVE_MAX_TERMS = 65536 };
+/* The largest counts, and how many terms one row may have. */
+enum { PRESOLVE_MAX_VARS = 4096, PRESOLVE_MAX_ROWS = 8192, PRESOLVE_MAX_TERMS = 65536, PRESOLVE_MAX_ROW_TERMS = 256 };
 
 /* How many entries the working slices need (docs/WORKSPACE.md), and the answer's slice. */
 #define PRESOLVE_FLOATS(vars, rows, terms) (4 * (vars) + 8 * (rows) + (terms))
@@ -39,13 +39,14 @@ enum { PRESOLVE_MAX_VARS = 4096, PRESOLVE_MAX_ROWS = 8192, PRESOLVE_MAX_TERMS = 
 #define PRESOLVE_ADJACENCY(vars, rows, terms) ((vars) + (terms) + 1)
 #define PRESOLVE_ANSWER 9
 
-/* What the call returns: 0, 100, or the number of a refusal. */
+/* What the call returns: 0, 100, or the number of a refusal; in the order of the table, of which the earliest row is given. */
 enum {
     PRESOLVE_DONE = 0,
     PRESOLVE_LENGTHS_DISAGREE = 1,
     PRESOLVE_TOO_MANY = 2,
     PRESOLVE_BAD_STARTS = 3,
     PRESOLVE_BAD_INDEX = 4,
+    PRESOLVE_LONG_ROW = 18,
     PRESOLVE_BAD_CODE = 5,
     PRESOLVE_BAD_BOUND = 6,
     PRESOLVE_NOT_FINITE = 7,
@@ -90,7 +91,7 @@ enum {
  * Working slices, whatever they hold: floats, numbers, adjacency (sizes above).
  *
  * Returns 0: done. 100: the model is infeasible; answer[0] to answer[4] hold the counts reached, and no result slice is
- * written. 1 to 10: the call is refused, by the earliest row of the table that applies, and nothing is written, in answer
+ * written. 1 to 99: the call is refused, by the earliest row of the table that applies, and nothing is written, in answer
  * neither; 10, the last row, where a result slice, a working slice or answer is too short. After 0 and 100 the working slices
  * hold zeros over their whole length. Entries past the used front of a slice are never written.
  */

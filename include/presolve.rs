@@ -143,17 +143,19 @@ pub const MIP_DUAL: u8 = 2;
 pub const WRITTEN: u8 = 0;
 pub const REWRITTEN: u8 = 1;
 
-/// The largest counts.
+/// The largest counts, and how many terms one row may have.
 pub const MAX_VARS: usize = 4096;
 pub const MAX_ROWS: usize = 8192;
 pub const MAX_TERMS: usize = 65536;
+pub const MAX_ROW_TERMS: usize = 256;
 
-/// What the call returns: `DONE`, `INFEASIBLE`, or the number of a refusal.
+/// What the call returns: `DONE`, `INFEASIBLE`, or the number of a refusal; in the order of the table, of which the earliest row is given.
 pub const DONE: u8 = 0;
 pub const LENGTHS_DISAGREE: u8 = 1;
 pub const TOO_MANY: u8 = 2;
 pub const BAD_STARTS: u8 = 3;
 pub const BAD_INDEX: u8 = 4;
+pub const LONG_ROW: u8 = 18;
 pub const BAD_CODE: u8 = 5;
 pub const BAD_BOUND: u8 = 6;
 pub const NOT_FINITE: u8 = 7;

@@ -80,6 +80,7 @@ static inline const char *presolve_words(int code) {
     case PRESOLVE_TOO_MANY: return "more than a maximum";
     case PRESOLVE_BAD_STARTS: return "row starts: first is not 0, one falls, or the last is not the term count";
     case PRESOLVE_BAD_INDEX: return "a term's index is too large, or not rising within its row";
+    case PRESOLVE_LONG_ROW: return "a row has more than 256 terms";
     case PRESOLVE_BAD_CODE: return "a domain, comparison or mode above 2";
     case PRESOLVE_BAD_BOUND: return "a bound is not a number, a lower bound is +infinity or an upper bound -infinity";
     case PRESOLVE_NOT_FINITE: return "an objective or coefficient is not finite";

@@ -44,6 +44,7 @@ MOST = {"variables": 128, "rows": 128, "terms": 512}
 COUNTS = ["rows dropped", "bounds tightened", "variables fixed", "coefficients tightened", "passes"]
 with open(os.path.join(os.path.dirname(os.path.abspath(__file__)), "refusals.txt"), encoding="utf-8") as _lines:
     REASONS = {int(number): words for number, words in (line.rstrip("\n").split("\t") for line in _lines)}
+OF_THE_READER = range(11, 15)  # what a file is refused with while it is read
 
 
 class Fault(Exception):

@@ -75,6 +75,18 @@ def refusals():
     for name in ("both 0.5", "both 0"):
         model(name, "reduced", 1, 0, 0, 0, 1)  # x <= 2 holds by the bounds
     model("nothing", "unchanged", 0, 0, 0, 0, 0, rows=0)
+    for mode in range(3):
+        name = f"256 terms, mode {mode}, domain 2, second 1"
+        if mode == 2:
+            model(name, "reduced", 1, 0, 256, 0, 2)  # nothing wants one of the variables high, so all are fixed at 0
+        else:
+            model(name, "unchanged", 0, 0, 0, 0, 1)  # at most 1 says nothing of one variable alone
+        refused(f"257 terms, mode {mode}, domain 2, second 1", 18)
+        refused(f"257 terms, mode {mode}, domain 2, second 1", 18)  # zeros
+    refused("257 terms, mode 1, domain 2, second 0", 4)
+    refused("257 terms, mode 1, domain 3, second 1", 18)
+    refused("257 terms, mode 3, domain 2, second 1", 18)
+    refused("257 terms, mode 1, domain 2, second 1", 18)  # a slice is short
     for k in range(1, 11):
         refused(f"faults from {k}", 3 if k == 2 else k)
     model("faults from 11", "reduced", 1, 0, 0, 0, 1)

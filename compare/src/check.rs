@@ -30,7 +30,7 @@ pub struct Seen {
     pub infeasible: u64,
     pub reduced: u64,
     pub unchanged: u64,
-    pub refused: [u64; 11],
+    pub refused: [u64; 19],
     pub rewritten_rows: u64,
     // calls with a zero of another sign that passed for the same
     pub zero_signs: u64,

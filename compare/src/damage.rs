@@ -181,19 +181,51 @@ pub fn too_many(rng: &mut Rng) -> Vec<(Model, Sizes)> {
         shorter.floats = 0;
         out.push((m, shorter));
     }
-    // 65,537 terms in full rows
+    // 65,536 terms in 256 rows of the most terms, and one more
     let mut m = Model::new(1, 1e-6, 1e-9);
     for _ in 0..4096 {
         m.var(0, 0.0, 1.0, 0.0);
     }
-    let all: Vec<(usize, f64)> = (0..4096).map(|v| (v, 1.0)).collect();
-    for _ in 0..16 {
-        m.row(&all, LE, 9.0);
+    for k in 0..256 {
+        let part: Vec<(usize, f64)> = (0..256).map(|v| (v + k % 16 * 256, 1.0)).collect();
+        m.row(&part, LE, 9.0);
     }
     let s = Sizes::least(&m);
     out.push((m.clone(), s));
     m.row(&[(5, 1.0)], LE, 1.0);
     let s = Sizes::least(&m);
     out.push((m, s));
+    out
+}
+
+// Rows of the most terms and of one more, in all modes: the coefficients numbers or zeros; with a fault before 18 in the table,
+// or one after it; and with no space.
+pub fn long_rows(rng: &mut Rng) -> Vec<(Model, Sizes)> {
+    let mut out = Vec::new();
+    for (mode, per_row) in [(0, 256), (1, 256), (2, 256), (0, 257), (1, 257), (2, 257)] {
+        for coeff in [1.0, 0.0] {
+            let mut m = Model::new(mode, 1e-6, 1e-9);
+            for _ in 0..per_row + 3 {
+                m.var(rng.below(3) as u8, 0.0, 1.0, 0.0);
+            }
+            m.row(&[(0, 1.0), (2, 1.0)], LE, 1.0);
+            let first = rng.below(4);
+            let terms: Vec<(usize, f64)> = (first..first + per_row).map(|v| (v, coeff)).collect();
+            m.row(&terms, LE, 1.0);
+            m.row(&[(1, 1.0)], GE, 0.0);
+            let s = Sizes::least(&m);
+            out.push((m.clone(), s));
+            let mut falls = m.clone();
+            falls.index.swap(5, 6);
+            out.push((falls, s));
+            for kind in [5, 6, 7, 8, 9] {
+                let mut later = m.clone();
+                let mut same = s;
+                spoil(rng, kind, &mut later, &mut same);
+                out.push((later, s));
+            }
+            out.push((m, Sizes::NONE));
+        }
+    }
     out
 }

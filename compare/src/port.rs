@@ -146,7 +146,7 @@ mod stand_in {
 
     // Which of the faults below the stand-in has; none by default.
     pub static FAULT: AtomicUsize = AtomicUsize::new(usize::MAX);
-    pub const FAULTS: [&str; 28] = [
+    pub const FAULTS: [&str; 30] = [
         "a count of an infeasible answer is 0",
         "a lower bound is one unit off",
         "an upper bound is one unit off",
@@ -175,6 +175,8 @@ mod stand_in {
         "an integer's upper bound is minus zero",
         "a Real variable's given minus zero comes out as plus zero",
         "in mode 0 a given minus zero comes out as plus zero",
+        "a row of 256 terms is refused",
+        "5 is checked before 18",
     ];
 
     fn up(x: f64) -> f64 {
@@ -211,6 +213,12 @@ mod stand_in {
             if refusal(&other, &sizes) == 8 {
                 refused = 8;
             }
+        }
+        if fault(28) && refused == 0 && m.starts.windows(2).any(|w| w[1] - w[0] == 256) {
+            refused = 18;
+        }
+        if fault(29) && refused == 18 && (m.mode > 2 || m.domain.iter().chain(&m.cmp).any(|&c| c > 2)) {
+            refused = 5;
         }
         if refused != 0 {
             if fault(17) && !s.answer.is_empty() {

@@ -1,4 +1,4 @@
-// 01's table of refusals, read row by row: the number of the first row that applies, or 0. Written from the paper alone.
+// 01's table of refusals with 02's rows, read row by row: the number of the first row that applies, or 0. Written from the papers alone.
 use crate::model::{Model, EQ, GE, LE};
 
 // How many entries each lent slice has: the ten result slices, the three working slices, the answer's.
@@ -84,6 +84,11 @@ fn indices(m: &Model) -> bool {
     m.index.iter().any(|&v| v >= m.obj.len()) || m.starts.windows(2).any(|w| m.index[w[0]..w[1]].windows(2).any(|p| p[1] <= p[0]))
 }
 
+// 18, checked after 4: a row has more than 256 terms.
+fn long_rows(m: &Model) -> bool {
+    m.starts.windows(2).any(|w| w[1] - w[0] > 256)
+}
+
 // 5: a domain, comparison or mode above 2.
 fn codes(m: &Model) -> bool {
     m.mode > 2 || m.domain.iter().chain(&m.cmp).any(|&c| c > 2)
@@ -129,6 +134,8 @@ pub fn refusal(m: &Model, lent: &Sizes) -> u8 {
         3
     } else if indices(m) {
         4
+    } else if long_rows(m) {
+        18
     } else if codes(m) {
         5
     } else if bounds(m) {

@@ -158,6 +158,9 @@ impl Run {
         for (i, (m, s)) in damage::too_many(&mut rng).iter().enumerate() {
             self.call(&format!("maxima, call {i}"), m, s, &mut rng);
         }
+        for (i, (m, s)) in damage::long_rows(&mut rng).iter().enumerate() {
+            self.call(&format!("long rows, call {i}"), m, s, &mut rng);
+        }
     }
     pub fn limits(&mut self, seed: u64) {
         let mut rng = Rng::new(seed ^ 0x1177);
@@ -174,7 +177,7 @@ impl Run {
         println!("models: {} (infeasible {}, reduced {}, unchanged {}), farm models among them {}", thousands(models), thousands(s.infeasible), thousands(s.reduced), thousands(s.unchanged), thousands(s.whole));
         println!("rewritten rows emitted: {}; answers with a zero of another sign in a row: {}", thousands(s.rewritten_rows), thousands(s.zero_signs));
         print!("{}", self.listed.totals());
-        let refused: Vec<String> = (1..11).map(|k| format!("{k}: {}", thousands(s.refused[k]))).collect();
+        let refused: Vec<String> = (1..=10).chain([18]).map(|k| format!("{k}: {}", thousands(s.refused[k]))).collect();
         println!("refused calls: {}", refused.join(", "));
         for e in self.cover.never() {
             println!("never happened: {e}");

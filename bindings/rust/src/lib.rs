@@ -135,6 +135,7 @@ impl Refusal {
             raw::TOO_MANY => "more than a maximum",
             raw::BAD_STARTS => "row starts: first is not 0, one falls, or the last is not the term count",
             raw::BAD_INDEX => "a term's index is too large, or not rising within its row",
+            raw::LONG_ROW => "a row has more than 256 terms",
             raw::BAD_CODE => "a domain, comparison or mode above 2",
             raw::BAD_BOUND => "a bound is not a number, a lower bound is +infinity or an upper bound -infinity",
             raw::NOT_FINITE => "an objective or coefficient is not finite",

@@ -1,5 +1,5 @@
--- THE EDGES OF WHAT IS ACCEPTED, as 01 names them: one table of calls just inside and just outside, and one theorem, by computing; how many variables are too many;
--- and that longer slices are accepted where shorter ones are.
+-- THE EDGES OF WHAT IS ACCEPTED, as 01 and 02 name them: one table of calls just inside and just outside, and one theorem, by computing; how many variables are too
+-- many; and that longer slices are accepted where shorter ones are.
 use Rattle.std.specs.Prelude.{ℕ, zero, suc, ◌<◌, ◌≡◌, Bool, true, false, ◌||◌, List, [], ◌∷◌, ◌++◌, ltb, length, replicate}
 use Rattle.std.proofs.Common.{arith, ◌∙◌, ltb→lt}
 use Rattle.std.proofs.Math.Path.{refl}
@@ -11,10 +11,10 @@ use Rattle.floats.specs.Num.{choose, 0f, is_finite}
 use Rattle.definition.specs.Model.{Model}
 use Rattle.definition.specs.Cases.{writing}
 use Rattle.definition.specs.Refusal.{Lent, MAX_VARS, floats_needed, numbers_needed, adjacency_needed, some_below, vars, rows, terms, lengths_disagree}
-use Rattle.definition.specs.Refusal.{too_large, starts_wrong, indices_wrong, domain_wrong, codes_wrong, bound_wrong, bounds_wrong, obj_wrong, numbers_wrong}
+use Rattle.definition.specs.Refusal.{too_large, starts_wrong, indices_wrong, rows_long, domain_wrong, codes_wrong, bound_wrong, bounds_wrong, obj_wrong, numbers_wrong}
 use Rattle.definition.specs.Refusal.{rhses_wrong, tolerances_wrong, too_short, shortest, earliest, refusal, judging}
 use Rattle.definition.specs.Choices.{equal, bool_false}
-use Rattle.definition.specs.Edges.{edges, expected, refusals, wide}
+use Rattle.definition.specs.Edges.{counting, long, edges, expected, refusals, wide}
 
 -- ---- lent slices matter to refusal 10 alone
 pub last_alone : (cs : List (ℕ × Bool)) (k : ℕ) (c d : Bool) → earliest (cs ++ ((k, c) ∷ [])) ≡ none → d ≡ false → earliest (cs ++ ((k, d) ∷ [])) ≡ none
@@ -28,8 +28,8 @@ pub longer_accepted : (M : Model) (K L : Lent) → refusal M K ≡ none → too_
 unfolding refusal
 longer_accepted M K L =
     last_alone
-    ((1, lengths_disagree M) ∷ (2, too_large M) ∷ (3, starts_wrong M) ∷ (4, indices_wrong M) ∷ (5, codes_wrong M) ∷ (6, bounds_wrong M) ∷ (7, numbers_wrong M)
-    ∷ (8, rhses_wrong M) ∷ (9, tolerances_wrong M) ∷ [])
+    ((1, lengths_disagree M) ∷ (2, too_large M) ∷ (3, starts_wrong M) ∷ (4, indices_wrong M) ∷ (18, rows_long M) ∷ (5, codes_wrong M) ∷ (6, bounds_wrong M)
+    ∷ (7, numbers_wrong M) ∷ (8, rhses_wrong M) ∷ (9, tolerances_wrong M) ∷ [])
     10 (too_short M K) (too_short M L)
 
 pub ltb_same : (n : ℕ) → ltb n n ≡ false
@@ -45,7 +45,7 @@ shortest_enough M =
     rw (ltb_same v, ltb_same r, ltb_same t, ltb_same (floats_needed v r t), ltb_same (numbers_needed v r t), ltb_same (adjacency_needed v t)) refl
 
 pub edges_judged : refusals edges ≡ expected edges
-unfolding edges refusals expected round of_int writing judging
+unfolding edges refusals expected counting long round of_int writing judging
 edges_judged = refl
 
 pub none_below : (t : ℕ → Bool) (n : ℕ) → ((k : ℕ) → k < n → t k ≡ false) → some_below t n ≡ false
@@ -78,10 +78,10 @@ module _ (n : ℕ) where
   large = rw (size 0f) (or-false (ltb MAX_VARS n || false) ∙ or-false (ltb MAX_VARS n))
 
   -- what looks at no variable
-  pub others : (starts_wrong (wide n) ≡ false) × (indices_wrong (wide n) ≡ false) × (rhses_wrong (wide n) ≡ false) × (tolerances_wrong (wide n) ≡ false)
+  pub others : (starts_wrong (wide n) ≡ false) × (indices_wrong (wide n) ≡ false) × (rows_long (wide n) ≡ false) × (rhses_wrong (wide n) ≡ false) × (tolerances_wrong (wide n) ≡ false)
   unfolding wide judging
-  others = (refl, refl, refl, refl)
+  others = (refl, refl, refl, refl, refl)
 
   pub wide_judged : refusal (wide n) (shortest (wide n)) ≡ choose (ltb MAX_VARS n) (some 2) none
   unfolding refusal earliest choose
-  wide_judged = rw (agree, large, others.0, others.1, codes, bounds, numbers, others.2, others.3, shortest_enough (wide n)) refl
+  wide_judged = rw (agree, large, others.0, others.1, others.2, codes, bounds, numbers, others.3, others.4, shortest_enough (wide n)) refl

@@ -1,5 +1,5 @@
 -- AN ACCEPTED CALL, one that the table of refusals passes, is shaped: what every theorem about accepted calls rests on.
-use Rattle.std.specs.Prelude.{ℕ, zero, suc, ◌+◌, ◌-◌, ◌≤◌, ◌<◌, ◌≡◌, Bool, true, false, not, ◌||◌, List, ◌∷◌, T, eqb}
+use Rattle.std.specs.Prelude.{ℕ, zero, suc, ◌+◌, ◌-◌, ◌≤◌, ◌<◌, ◌≡◌, Bool, true, false, not, ◌||◌, List, [], ◌∷◌, T, eqb}
 use native.Mathlib.Omega.{arith}
 use Rattle.std.proofs.Math.Path.{refl, sym, subst}
 use Rattle.std.proofs.Common.{◌∙◌}
@@ -10,7 +10,8 @@ use Rattle.floats.specs.Num.{choose}
 use Rattle.definition.specs.Model.{Model, from, upto, nnz, op_of}
 use Rattle.definition.specs.Tests.{nor, last_or}
 use Rattle.definition.specs.Refusal.{Lent, some_below, lengths_disagree, start_falls, starts_wrong, index_large, index_falls, row_unordered}
-use Rattle.definition.specs.Refusal.{indices_wrong, cmp_wrong, domain_wrong, codes_wrong, too_large, earliest, refusal}
+use Rattle.definition.specs.Refusal.{MAX_ROW_TERMS, indices_wrong, row_long, rows_long, cmp_wrong, domain_wrong, codes_wrong, too_large}
+use Rattle.definition.specs.Refusal.{bounds_wrong, numbers_wrong, rhses_wrong, tolerances_wrong, too_short, table, earliest, refusal}
 
 -- what an accepted call has, as `accepted_shaped` proves: lengths agree, each row's terms lie in the lists of terms, from `from` up to `upto`, variables are numbered, and rise within a row; codes
 pub record Shaped (M : Model) : Type 0 where
@@ -30,11 +31,57 @@ unfolding some_below
 none_below p zero t k h = absurd (omega arith)
 none_below p (suc n) t k h = let q = nor (some_below p n) (p n) t in last_or {Q = λ k. T (not (p k))} n q.1 (none_below p n q.0) k h
 
--- a row of the table that does not apply, and the rest
-first_passes : (n : ℕ) (b : Bool) (cs : List (ℕ × Bool)) → earliest ((n, b) ∷ cs) ≡ none → T (not b) × (earliest cs ≡ none)
-unfolding earliest choose
-first_passes n true cs e = absurd (let z : ◌≡◌ {A = ℕ} 0 1 = cc in omega arith)
-first_passes n false cs e = (tt, e)
+-- ---- THE TABLE PASSES A CALL only where each of its rows does
+-- whether the row of this number applies; no where the table has none
+unfoldable applies : ℕ → List (ℕ × Bool) → Bool
+applies n [] = false
+applies n (c ∷ cs) =
+    let later = applies n cs in
+    choose (eqb n c.0) c.1 later
+
+none_applies : (n : ℕ) (cs : List (ℕ × Bool)) → earliest cs ≡ none → applies n cs ≡ false
+unfolding earliest applies choose
+none_applies n [] e = refl
+none_applies n ((k, true) ∷ cs) e = absurd (let z : ◌≡◌ {A = ℕ} 0 1 = cc in omega arith)
+none_applies n ((k, false) ∷ cs) e = by (eqb n k) (none_applies n cs e)
+  where
+    by : (b : Bool) → applies n cs ≡ false → choose b false (applies n cs) ≡ false
+    by true h = refl
+    by false h = h
+
+pub record Accepted (M : Model) (L : Lent) : Type 0 where
+  pub lengths : lengths_disagree M ≡ false
+  pub sizes : too_large M ≡ false
+  pub starts : starts_wrong M ≡ false
+  pub indices : indices_wrong M ≡ false
+  pub long : rows_long M ≡ false
+  pub codes : codes_wrong M ≡ false
+  pub bounds : bounds_wrong M ≡ false
+  pub numbers : numbers_wrong M ≡ false
+  pub rhses : rhses_wrong M ≡ false
+  pub tolerances : tolerances_wrong M ≡ false
+  pub room : too_short M L ≡ false
+
+pub accepted : (M : Model) (L : Lent) → refusal M L ≡ none → Accepted M L
+unfolding refusal applies choose
+accepted M L e =
+    let row : (n : ℕ) → applies n (table M L) ≡ false = λ n. none_applies n (table M L) e in
+    record {
+      lengths = row 1;
+      sizes = row 2;
+      starts = row 3;
+      indices = row 4;
+      long = row 18;
+      codes = row 5;
+      bounds = row 6;
+      numbers = row 7;
+      rhses = row 8;
+      tolerances = row 9;
+      room = row 10;
+    }
+
+passes : {b : Bool} → b ≡ false → T (not b)
+passes e = subst (λ (b : Bool). T (not b)) (sym e) tt
 
 not_not : (b : Bool) → T (not (not b)) → T b
 not_not true t = t
@@ -121,6 +168,11 @@ module _ (M : Model) where
         let l = nleb→lt (get_or M.index (suc (from M r + j)) 0) (get_or M.index (from M r + j) 0) (none_below (index_falls M r) (upto M r - from M r - 1) u j (omega arith)) in
         subst (λ (i : ℕ). get_or M.index i 0 < get_or M.index (suc i) 0) e l
 
+  -- refusal 18
+  short : T (not (rows_long M)) → (r : ℕ) → r < length M.rhs → nnz M r ≤ MAX_ROW_TERMS
+  unfolding rows_long row_long
+  short t r h = nltb→le MAX_ROW_TERMS (nnz M r) (none_below (row_long M) (length M.rhs) t r h)
+
   -- refusal 5
   codes : T (not (codes_wrong M)) → (r : ℕ) → r < length M.rhs → op_of M r ≤ 2
   unfolding codes_wrong cmp_wrong
@@ -130,22 +182,23 @@ module _ (M : Model) where
 
   -- AN ACCEPTED CALL is shaped
   pub accepted_shaped : (L : Lent) → refusal M L ≡ none → Shaped M
-  unfolding refusal
   accepted_shaped L e =
-      let p1 = first_passes 1 (lengths_disagree M) _ e in
-      let p2 = first_passes 2 (too_large M) _ p1.1 in
-      let p3 = first_passes 3 (starts_wrong M) _ p2.1 in
-      let p4 = first_passes 4 (indices_wrong M) _ p3.1 in
-      let p5 = first_passes 5 (codes_wrong M) _ p4.1 in
-      let l = lengths p1.0 in
+      let a = accepted M L e in
+      let l = lengths (passes a.lengths) in
+      let starts = passes a.starts in
+      let indices = passes a.indices in
       record {
         uppers = l.upper;
         domains = l.domain;
         ops = l.cmp;
         coeffs = l.coeff;
-        starts = in_order p3.0;
-        ends = in_list p3.0;
-        index = numbered p4.0 l.obj;
-        rising = rises p4.0;
-        op = codes p5.0;
+        starts = in_order starts;
+        ends = in_list starts;
+        index = numbered indices l.obj;
+        rising = rises indices;
+        op = codes (passes a.codes);
       }
+
+  -- and each of its rows has at most 256 terms
+  pub accepted_short : (L : Lent) → refusal M L ≡ none → (r : ℕ) → r < length M.rhs → nnz M r ≤ MAX_ROW_TERMS
+  accepted_short L e = short (passes (accepted M L e).long)

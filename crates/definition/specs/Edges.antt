@@ -1,9 +1,9 @@
--- THE EDGES OF WHAT IS ACCEPTED, as 01 names them: one table of calls just inside and just outside, and one theorem, by computing; how many variables are too many;
--- and that longer slices are accepted where shorter ones are.
-use Rattle.std.specs.Prelude.{ℕ, List, [], ◌∷◌, replicate, Float}
+-- THE EDGES OF WHAT IS ACCEPTED, as 01 and 02 name them: one table of calls just inside and just outside, and one theorem, by computing; how many variables are too
+-- many; and that longer slices are accepted where shorter ones are.
+use Rattle.std.specs.Prelude.{ℕ, zero, suc, List, [], ◌∷◌, replicate, Float}
 use Rattle.std.proofs.Math.Option.{Option, none, some}
 use Rattle.std.specs.Float.Ieee.{nan}
-use Rattle.floats.specs.Num.{0f, ½f, ∞f, -∞f}
+use Rattle.floats.specs.Num.{0f, ½f, 1f, ∞f, -∞f}
 use Rattle.definition.specs.Params.{params}
 use Rattle.definition.specs.Model.{Model}
 use Rattle.definition.specs.Cases.{#, ratio, -0f, bits, p, Line, ◌·◌, is_eq, is_le, is_ge, model_within, model}
@@ -51,6 +51,48 @@ lending l u r m b f e k i c x n a z =
       refusal = z;
     }
 
+-- from k on, n numbers
+unfoldable pub counting : ℕ → ℕ → List ℕ
+counting k zero = []
+counting k (suc n) = k ∷ counting (suc k) n
+
+-- one row a x₀ + a x₁ + .. ≤ 1 over n variables of this domain, with these indices
+unfoldable pub long : (n domain mode : ℕ) → Float → List ℕ → Model
+long n domain mode a index =
+    record {
+      obj = replicate n 0f;
+      lower = replicate n 0f;
+      upper = replicate n 1f;
+      domain = replicate n domain;
+      starts = 0 ∷ n ∷ [];
+      index = index;
+      coeff = replicate n a;
+      cmp = 1 ∷ [];
+      rhs = 1f ∷ [];
+      mode = mode;
+      feas = 0f;
+      int_tol = 0f;
+      params = params;
+    }
+
+abbrev pub nothing_lent : Lent
+nothing_lent =
+    record {
+      lower = 0;
+      upper = 0;
+      emit_row = 0;
+      emit_rewritten = 0;
+      emit_rhs = 0;
+      emit_from = 0;
+      emit_upto = 0;
+      kept = 0;
+      term_index = 0;
+      term_coeff = 0;
+      floats = 0;
+      numbers = 0;
+      adjacency = 0;
+    }
+
 -- ---- the table
 unfoldable pub edges : List Call
 edges =
@@ -91,6 +133,19 @@ edges =
     ∷ lending 1 1 1 1 1 1 1 1 1 1 13 21 2 (some 10)
     -- two rows of the table apply: the earlier is given, the right side's and not the tolerance's
     ∷ of (model_within (ratio 51 100) ½f 1 (p ∷ []) (is_eq (2 · 0 ∷ []) ∞f ∷ [])) (some 8)
+    -- a row of 256 terms passes and one of 257 does not, in every mode, and with zeros too: terms count as they are written
+    ∷ of (long 256 2 0 1f (counting 0 256)) none
+    ∷ of (long 256 2 1 1f (counting 0 256)) none
+    ∷ of (long 256 2 2 1f (counting 0 256)) none
+    ∷ of (long 257 2 0 1f (counting 0 257)) (some 18)
+    ∷ of (long 257 2 1 1f (counting 0 257)) (some 18)
+    ∷ of (long 257 2 2 1f (counting 0 257)) (some 18)
+    ∷ of (long 257 2 1 0f (counting 0 257)) (some 18)
+    -- 18 comes after 4 and before 5, so before 10 too: an index that falls, a domain of 3 and a mode of 3, and no slice lent
+    ∷ of (long 257 2 1 1f (1 ∷ 0 ∷ counting 2 255)) (some 4)
+    ∷ of (long 257 3 1 1f (counting 0 257)) (some 18)
+    ∷ of (long 257 2 3 1f (counting 0 257)) (some 18)
+    ∷ record { model = long 257 2 1 1f (counting 0 257); lent = nothing_lent; refusal = some 18 }
     ∷ []
 
 unfoldable pub refusals : List Call → List (Option ℕ)

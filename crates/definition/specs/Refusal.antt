@@ -1,4 +1,4 @@
--- 01's table of refusals, for a call: the number of the earliest row of the table that applies, or none.
+-- 01's table of refusals with 02's rows, for a call: the number of the earliest row of the table that applies, or none. The order is the table's, not the numbers'.
 -- Over the call's numbers and the lengths of the lent slices. It is the port's own: the Rust leaves these things to its caller, or panics. What
 -- passes has lists that fit each other, indices that rise, known codes, numbers where presolve computes with them, tolerances in their range, and
 -- room for the results, which every promise about a call starts from.
@@ -35,6 +35,10 @@ MAX_ROWS = 8192
 
 abbrev pub MAX_TERMS : ℕ
 MAX_TERMS = 65536
+
+-- of one row
+abbrev pub MAX_ROW_TERMS : ℕ
+MAX_ROW_TERMS = 256
 
 -- ---- docs/WORKSPACE.md: what the working slices need
 unfoldable pub floats_needed : ℕ → ℕ → ℕ → ℕ
@@ -91,6 +95,13 @@ module _ (M : Model) where
 
   unfoldable pub indices_wrong : Bool
   indices_wrong = some_below index_large terms || some_below row_unordered rows
+
+  -- 18: a row has more terms than a row may have, counted as they are written, zeros too
+  unfoldable pub row_long : ℕ → Bool
+  row_long r = ltb MAX_ROW_TERMS (nnz M r)
+
+  unfoldable pub rows_long : Bool
+  rows_long = some_below row_long rows
 
   -- 5: a domain, comparison or mode above 2
   unfoldable pub domain_wrong : ℕ → Bool
@@ -166,8 +177,8 @@ module _ (M : Model) where
 -- the table, in its order
 abbrev pub table : Model → Lent → List (ℕ × Bool)
 table M L =
-    (1, lengths_disagree M) ∷ (2, too_large M) ∷ (3, starts_wrong M) ∷ (4, indices_wrong M) ∷ (5, codes_wrong M) ∷ (6, bounds_wrong M) ∷ (7, numbers_wrong M)
-    ∷ (8, rhses_wrong M) ∷ (9, tolerances_wrong M) ∷ (10, too_short M L) ∷ []
+    (1, lengths_disagree M) ∷ (2, too_large M) ∷ (3, starts_wrong M) ∷ (4, indices_wrong M) ∷ (18, rows_long M) ∷ (5, codes_wrong M) ∷ (6, bounds_wrong M)
+    ∷ (7, numbers_wrong M) ∷ (8, rhses_wrong M) ∷ (9, tolerances_wrong M) ∷ (10, too_short M L) ∷ []
 
 unfoldable pub earliest : List (ℕ × Bool) → Option ℕ
 earliest [] = none
@@ -181,6 +192,6 @@ refusal M L = earliest (table M L)
 -- to unfold this is to unfold all that its line names: every definition that refusal comes to
 unfoldable pub judging : Unit {0}
 unfolding eq le is_nan of_bits choose is_finite slack_min slack_max valid_rhs from upto nnz op_of rhs_of floats_needed numbers_needed adjacency_needed some_below
-    lengths_disagree too_large start_falls starts_wrong index_large index_falls row_unordered indices_wrong domain_wrong cmp_wrong codes_wrong bound_wrong bounds_wrong
-    obj_wrong coeff_wrong numbers_wrong rhs_wrong rhses_wrong tolerance_wrong tolerances_wrong too_short shortest earliest refusal
+    lengths_disagree too_large start_falls starts_wrong index_large index_falls row_unordered indices_wrong row_long rows_long domain_wrong cmp_wrong codes_wrong bound_wrong
+    bounds_wrong obj_wrong coeff_wrong numbers_wrong rhs_wrong rhses_wrong tolerance_wrong tolerances_wrong too_short shortest earliest refusal
 judging = tt

@@ -11,6 +11,7 @@ use Rattle.definition.specs.Params.{Params, params}
 use Rattle.definition.specs.Model as definition
 use Rattle.definition.specs.Model.{Model, is_mip, Reduced}
 use Rattle.definition.specs.Work.{Work}
+use Rattle.definition.specs.Accepted.{accepted}
 use Rattle.definition.specs.Emit.{Out, answer_of, final, differs}
 use Rattle.definition.specs.Presolve.{presolve}
 use Rattle.definition.specs.Refusal.{refusal}
@@ -25,7 +26,7 @@ use Rattle.refuse.specs.Number.{number_of}
 use Rattle.definition.specs.Of.{input_model}
 use Rattle.refuse.specs.Of.{refused_is}
 use Rattle.refuse.specs.Rows.{lengths_agree}
-use Rattle.refuse.specs.Accepted.{accepted, Scalars, call_of, LentRoom, room_of}
+use Rattle.refuse.specs.Accepted.{Scalars, call_of, LentRoom, room_of}
 use Rattle.tally.specs.Theorem.{CountsFit, Fits, counts_fit, fits_infeasible, fits_done}
 use Rattle.view.specs.Settled.{out_of}
 use Rattle.output.specs.declared.Reduced as code

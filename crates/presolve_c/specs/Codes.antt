@@ -1,4 +1,4 @@
--- THE CODE ALONE SAYS WHICH ANSWER IT IS: a refusal's number is from 1 to 10, so it is neither a model's code nor infeasible's.
+-- THE CODE ALONE SAYS WHICH ANSWER IT IS: a refusal's number is that of a row of the table, from 1 to 99, so it is neither a model's code nor infeasible's.
 use Rattle.std.specs.Prelude.{ℕ, ◌≤◌, ◌≡◌, refl, ◌↔◌, Bool, true, false, List, ltb, length}
 use Rattle.std.proofs.Common.{arith, sym, ◌∙◌}
 use Rattle.std.proofs.Math.Path.{ap}
@@ -10,24 +10,29 @@ use Rattle.definition.specs.Model.{Model, Reduced}
 use Rattle.definition.specs.Presolve.{presolve}
 use Rattle.definition.specs.Refusal.{Lent, earliest, refusal}
 use Rattle.emit.specs.Filling.{over}
+use Rattle.refuse.specs.declared.Refusal.{Refusal}
+use Rattle.refuse.specs.declared.Refusal.TheVariants.{LengthsDisagree, TooLarge, StartsWrong, IndicesWrong, RowsLong, CodesWrong, BoundsWrong, NumbersWrong, RhsesWrong}
+use Rattle.refuse.specs.declared.Refusal.TheVariants.{TolerancesWrong, TooShort}
+use Rattle.refuse.specs.Number.{number_of}
 use Rattle.output.specs.Results.{Results, written}
 use Rattle.presolve.specs.Promise.{Working, lengths, outcome, results_after}
 use Rattle.presolve_c.specs.Face.{or_else, short_answer, face_refusal, code_of, flag_number, five_of, nine_of, numbers_of, FacePromise}
 
--- ---- a refusal's number
+-- ---- a refusal's number: that of a row of the table
+pub record Named (k : ℕ) : Type 0 where
+  pub row : Refusal
+  pub is : number_of row ≡ k
+
 pub record Numbered (r : Option ℕ) : Type 0 where
-  pub is : (k : ℕ) → r ≡ some k → (1 ≤ k) × (k ≤ 10)
+  pub is : (k : ℕ) → r ≡ some k → Named k
 
 numbered_none : Numbered none
 numbered_none = record { is = λ k e. absurd (none-ne-some k e) }
 
-numbered_some : (n : ℕ) → 1 ≤ n → n ≤ 10 → Numbered (some n)
-numbered_some n p q = record { is = λ k e. let i = some-injective n k e in (omega (arith, p, i), omega (arith, q, i)) }
-
-numbered_choice : (n : ℕ) (t : Bool) {r : Option ℕ} → 1 ≤ n → n ≤ 10 → Numbered r → Numbered (choose t (some n) r)
+numbered_row : (row : Refusal) (t : Bool) {r : Option ℕ} → Numbered r → Numbered (choose t (some (number_of row)) r)
 unfolding choose
-numbered_choice n true p q later = numbered_some n p q
-numbered_choice n false p q later = later
+numbered_row row true later = record { is = λ k e. record { row = row; is = some-injective (number_of row) k e } }
+numbered_row row false later = later
 
 numbered_else : (r : Option ℕ) {later : Option ℕ} → Numbered r → Numbered later → Numbered (or_else r later)
 unfolding or_else
@@ -37,20 +42,28 @@ numbered_else none p q = q
 numbered_table : (M : Model) (L : Lent) → Numbered (refusal M L)
 unfolding refusal earliest
 numbered_table M L =
-    numbered_choice 1 _ (omega arith) (omega arith)
-    (numbered_choice 2 _ (omega arith) (omega arith)
-    (numbered_choice 3 _ (omega arith) (omega arith)
-    (numbered_choice 4 _ (omega arith) (omega arith)
-    (numbered_choice 5 _ (omega arith) (omega arith)
-    (numbered_choice 6 _ (omega arith) (omega arith)
-    (numbered_choice 7 _ (omega arith) (omega arith)
-    (numbered_choice 8 _ (omega arith) (omega arith)
-    (numbered_choice 9 _ (omega arith) (omega arith)
-    (numbered_choice 10 _ (omega arith) (omega arith) numbered_none)))))))))
+    numbered_row LengthsDisagree _ (numbered_row TooLarge _ (numbered_row StartsWrong _ (numbered_row IndicesWrong _ (numbered_row RowsLong _ (numbered_row CodesWrong _
+    (numbered_row BoundsWrong _ (numbered_row NumbersWrong _ (numbered_row RhsesWrong _ (numbered_row TolerancesWrong _ (numbered_row TooShort _ numbered_none))))))))))
+
+within : (row : Refusal) → (1 ≤ number_of row) × (number_of row ≤ 99)
+within LengthsDisagree = omega arith
+within TooLarge = omega arith
+within StartsWrong = omega arith
+within IndicesWrong = omega arith
+within RowsLong = omega arith
+within CodesWrong = omega arith
+within BoundsWrong = omega arith
+within NumbersWrong = omega arith
+within RhsesWrong = omega arith
+within TolerancesWrong = omega arith
+within TooShort = omega arith
+
+in_range : {k : ℕ} → Named k → (1 ≤ k) × (k ≤ 99)
+in_range n = let w = within n.row in (omega (arith, w, n.is), omega (arith, w, n.is))
 
 pub numbered : (M : Model) (L : Lent) (n : ℕ) → Numbered (face_refusal M L n)
 unfolding face_refusal short_answer
-numbered M L n = numbered_else (refusal M L) (numbered_table M L) (numbered_choice 10 (ltb n 9) (omega arith) (omega arith) numbered_none)
+numbered M L n = numbered_else (refusal M L) (numbered_table M L) (numbered_row TooShort (ltb n 9) numbered_none)
 
 -- ---- by the code
 pub record IsModel (r : Option ℕ) (a : definition.Answer) : Type 0 where
@@ -65,17 +78,17 @@ pub record IsInfeasible (r : Option ℕ) (a : definition.Answer) : Type 0 where
 
 model_by : (r : Option ℕ) (a : definition.Answer) → Numbered r → code_of (outcome r a) ≡ 0 → IsModel r a
 unfolding code_of outcome
-model_by (some k) a n e = let m = n.is k refl in absurd (omega (arith, m, e))
+model_by (some k) a n e = let m = in_range (n.is k refl) in absurd (omega (arith, m, e))
 model_by none (definition.infeasible k) n e = absurd (omega (arith, e))
 model_by none (definition.done x) n e = record { reduced = x; accepted = refl; is = refl }
 
 infeasible_by : (r : Option ℕ) (a : definition.Answer) → Numbered r → code_of (outcome r a) ≡ 100 → IsInfeasible r a
 unfolding code_of outcome
-infeasible_by (some k) a n e = let m = n.is k refl in absurd (omega (arith, m, e))
+infeasible_by (some k) a n e = let m = in_range (n.is k refl) in absurd (omega (arith, m, e))
 infeasible_by none (definition.infeasible k) n e = record { counts = k; accepted = refl; is = refl }
 infeasible_by none (definition.done x) n e = absurd (omega (arith, e))
 
-refused_by : (r : Option ℕ) (a : definition.Answer) (k : ℕ) → code_of (outcome r a) ≡ k → 1 ≤ k → k ≤ 10 → r ≡ some k
+refused_by : (r : Option ℕ) (a : definition.Answer) (k : ℕ) → code_of (outcome r a) ≡ k → 1 ≤ k → k ≤ 99 → r ≡ some k
 unfolding code_of outcome
 refused_by (some j) a k e p q = ap some e
 refused_by none (definition.infeasible c) k e p q = absurd (omega (arith, e, q))
@@ -89,11 +102,11 @@ module _ {M : Model} {b b' : Results} {x x' : Working} {ans ans' : List ℕ} {z 
   abbrev table : Option ℕ
   table = face_refusal M (lengths b x) (length ans)
 
-  -- 1 to 10: exactly the table's refusals
-  pub refused_exactly : (k : ℕ) → ((z ≡ k) × (1 ≤ k) × (k ≤ 10)) ↔ (table ≡ some k)
+  -- 1 to 99: exactly the table's refusals
+  pub refused_exactly : (k : ℕ) → ((z ≡ k) × (1 ≤ k) × (k ≤ 99)) ↔ (table ≡ some k)
   refused_exactly k = (
     (λ h. refused_by table (presolve M) k (sym p.code ∙ h.0) h.1 h.2),
-    (λ e. let n = (numbered M (lengths b x) (length ans)).is k e in (p.code ∙ refused_of table (presolve M) k e, n.0, n.1)),
+    (λ e. let n = in_range ((numbered M (lengths b x) (length ans)).is k e) in (p.code ∙ refused_of table (presolve M) k e, n.0, n.1)),
   )
 
   -- 0: the definition's model stands in the result slices, and its nine numbers in the answer's

@@ -1,16 +1,13 @@
 -- 01's DEMANDS HOLD OF A CALL FROM C OR RUST TOO: where the answer's slice has its nine entries, such a call is a call of presolve, with the same answer and the same
 -- slices before and after it. So everything in presolve's specs/Demands holds of it.
-use Rattle.std.specs.Prelude.{ℕ, zero, suc, ◌≤◌, ◌≡◌, refl, List, length, Result, Ok, Err}
-use Rattle.std.proofs.Common.{arith, ap, sym, ◌∙◌, subst}
+use Rattle.std.specs.Prelude.{ℕ, ◌≤◌, ◌≡◌, refl, List, length, Result, Ok, Err}
+use Rattle.std.proofs.Common.{ap, sym, ◌∙◌, subst}
 use Rattle.std.proofs.Math.Option.{Option, none, some}
 use Rattle.definition.specs.Model as definition
 use Rattle.definition.specs.Model.{Model}
 use Rattle.definition.specs.Presolve.{presolve}
 use Rattle.definition.specs.Refusal.{refusal}
 use Rattle.output.specs.Results.{Results}
-use Rattle.refuse.specs.declared.Refusal.{Refusal}
-use Rattle.refuse.specs.declared.Refusal.TheVariants.{LengthsDisagree, TooLarge, StartsWrong, IndicesWrong, CodesWrong, BoundsWrong, NumbersWrong, RhsesWrong, TolerancesWrong, TooShort}
-use Rattle.refuse.specs.Number.{number_of}
 use Rattle.presolve.specs.declared.Presolved.{Presolved}
 use Rattle.presolve.specs.declared.Presolved.TheVariants as variants
 use Rattle.presolve.specs.Promise.{Working, lengths, Outcome, Answer, refused, infeasible, presolved, answer_as, answer_is, outcome, results_after, working_after, Promise}
@@ -18,47 +15,20 @@ use Rattle.presolve_c.specs.Face.{face_refusal, Told, FacePromise}
 use Rattle.presolve_c.specs.Steps.{long_is}
 use Rattle.presolve_c.specs.Codes.{Numbered, numbered}
 
--- the row of the table that a number is
-unfoldable pub refusal_of : ℕ → Refusal
-refusal_of zero = LengthsDisagree
-refusal_of (suc zero) = LengthsDisagree
-refusal_of (suc (suc zero)) = TooLarge
-refusal_of (suc (suc (suc zero))) = StartsWrong
-refusal_of (suc (suc (suc (suc zero)))) = IndicesWrong
-refusal_of (suc (suc (suc (suc (suc zero))))) = CodesWrong
-refusal_of (suc (suc (suc (suc (suc (suc zero)))))) = BoundsWrong
-refusal_of (suc (suc (suc (suc (suc (suc (suc zero))))))) = NumbersWrong
-refusal_of (suc (suc (suc (suc (suc (suc (suc (suc zero)))))))) = RhsesWrong
-refusal_of (suc (suc (suc (suc (suc (suc (suc (suc (suc zero))))))))) = TolerancesWrong
-refusal_of (suc (suc (suc (suc (suc (suc (suc (suc (suc (suc n)))))))))) = TooShort
+-- each outcome whose refusal is a row of the table is that of an answer
+record AnswerFor (o : Outcome) : Type 0 where
+  answer : Answer
+  is : answer_is answer ≡ o
 
-number_is : (k : ℕ) → 1 ≤ k → k ≤ 10 → number_of (refusal_of k) ≡ k
-unfolding refusal_of
-number_is zero p q = absurd (omega (arith, p))
-number_is (suc zero) p q = refl
-number_is (suc (suc zero)) p q = refl
-number_is (suc (suc (suc zero))) p q = refl
-number_is (suc (suc (suc (suc zero)))) p q = refl
-number_is (suc (suc (suc (suc (suc zero))))) p q = refl
-number_is (suc (suc (suc (suc (suc (suc zero)))))) p q = refl
-number_is (suc (suc (suc (suc (suc (suc (suc zero))))))) p q = refl
-number_is (suc (suc (suc (suc (suc (suc (suc (suc zero)))))))) p q = refl
-number_is (suc (suc (suc (suc (suc (suc (suc (suc (suc zero))))))))) p q = refl
-number_is (suc (suc (suc (suc (suc (suc (suc (suc (suc (suc zero)))))))))) p q = refl
-number_is (suc (suc (suc (suc (suc (suc (suc (suc (suc (suc (suc n))))))))))) p q = absurd (omega (arith, q))
-
--- each outcome is that of an answer
-unfoldable pub answer_of : Outcome → Answer
-answer_of (refused k) = Err (refusal_of k)
-answer_of (infeasible k) = Ok (variants.Infeasible k)
-answer_of (presolved k n t q g) = Ok (variants.Model (record { counts = k; emitted = n; terms = t; kept = q; flag = g }))
-
--- where a refusal's number is one of the table's
-is_answer_of : (r : Option ℕ) (a : definition.Answer) → Numbered r → answer_is (answer_of (outcome r a)) ≡ outcome r a
-unfolding outcome answer_of
-is_answer_of (some k) a n = let m = n.is k refl in ap refused (number_is k m.0 m.1)
-is_answer_of none (definition.infeasible k) n = refl
-is_answer_of none (definition.done x) n = refl
+answer_for : (r : Option ℕ) (a : definition.Answer) → Numbered r → AnswerFor (outcome r a)
+unfolding outcome
+answer_for (some k) a n = let m = n.is k refl in record { answer = Err m.row; is = ap refused m.is }
+answer_for none (definition.infeasible k) n = record { answer = Ok (variants.Infeasible k); is = refl }
+answer_for none (definition.done x) n =
+    record {
+      answer = Ok (variants.Model (record { counts = x.counts; emitted = length x.emitted; terms = length x.terms; kept = length x.kept; flag = x.flag }));
+      is = refl;
+    }
 
 -- each outcome, whatever its refusal's number, is that of an answer whose refusal is a number
 unfoldable pub answer_by : Outcome → Result Presolved ℕ
@@ -81,15 +51,14 @@ pub record IsCall (M : Model) (b : Results) (x : Working) (ans : List ℕ) (z : 
 pub face_is_call : {M : Model} {b b' : Results} {x x' : Working} {ans ans' : List ℕ} {z : ℕ} → FacePromise M b x ans z b' x' ans' → 9 ≤ length ans → IsCall M b x ans z b' x' ans'
 face_is_call {M} {b} {b'} {x} {x'} {ans} {ans'} {z} p n =
     let r : face_refusal M (lengths b x) (length ans) ≡ refusal M (lengths b x) = long_is M (lengths b x) (length ans) n in
-    let o = outcome (face_refusal M (lengths b x) (length ans)) (presolve M) in
-    let e : answer_is (answer_of o) ≡ o = is_answer_of (face_refusal M (lengths b x) (length ans)) (presolve M) (numbered M (lengths b x) (length ans)) in
+    let a = answer_for (face_refusal M (lengths b x) (length ans)) (presolve M) (numbered M (lengths b x) (length ans)) in
     record {
-      answer = answer_of o;
+      answer = a.answer;
       promise =
           record {
-            answer = e ∙ ap (λ (u : Option ℕ). outcome u (presolve M)) r;
+            answer = a.is ∙ ap (λ (u : Option ℕ). outcome u (presolve M)) r;
             results = p.results ∙ ap (λ (u : Option ℕ). results_after u (presolve M) b) r;
             working = p.working ∙ ap (λ (u : Option ℕ). working_after u x) r;
           };
-      told = subst (λ (u : Outcome). Told u ans z ans') (sym e) (record { code = p.code; answer = p.answer });
+      told = subst (λ (u : Outcome). Told u ans z ans') (sym a.is) (record { code = p.code; answer = p.answer });
     }

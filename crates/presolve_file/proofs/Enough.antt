@@ -1,5 +1,5 @@
 -- THE PROGRAM'S SPACE IS ENOUGH: a file that is read has at most 128 variables, 128 rows and 512 terms, and the slices that the program lends to presolve have room for
--- that. So no file is answered by refusal 10.
+-- that. So no file is answered by refusal 10; nor by 18, since a row whose indices rise has at most 128 terms.
 use Rattle.std.specs.Prelude.{ℕ, ◌+◌, ◌-◌, ◌*◌, ◌≤◌, ◌≡◌, refl, Bool, true, false, not, List, eqb, length, get_or}
 use Rattle.std.proofs.Common.{arith, ap, sym, ◌∙◌, le-ltb, eqb-true}
 use Rattle.std.proofs.Math.Option.{Option, none, some}
@@ -15,7 +15,7 @@ use Rattle.model_file.specs.Format.{Lists, Decoded, refusal, file, decode}
 use Rattle.print_result.specs.Text.{ascii, digit, tens, decimal, number, answer_line, refused_line, answer_text}
 use Rattle.presolve_file.specs.Whole.{kind_of, reduced_text, infeasible_text, outcome_text, space, model_text, model_in, decoded_text, file_text}
 use Rattle.presolve_file.specs.Small.{Small, small}
-use Rattle.presolve_file.specs.Refusals.{reader_numbers, long_numbers}
+use Rattle.presolve_file.specs.Refusals.{reader_numbers, small_numbers}
 
 -- ---- the space
 small_fits : (f : Lists) → Small f → too_short (model_in f) space ≡ false
@@ -44,16 +44,16 @@ told l = (length l - 10) * 10 * (get_or l 8 0 - 48) + (get_or l (length l - 2) 0
 misread : ℕ → Bool
 misread n = not (eqb (told (refused_line n)) n)
 
-none_misread : some_below misread 15 ≡ false
+none_misread : some_below misread 19 ≡ false
 unfolding misread told refused_line number decimal tens digit ascii some_below choose
 none_misread = refl
 
-read_back : (n : ℕ) → n ≤ 14 → told (refused_line n) ≡ n
+read_back : (n : ℕ) → n ≤ 18 → told (refused_line n) ≡ n
 unfolding misread
-read_back n h = eqb-true _ _ (not-false _ (none_below misread 15 n none_misread (omega arith)))
+read_back n h = eqb-true _ _ (not-false _ (none_below misread 19 n none_misread (omega arith)))
 
-refused_ten : (n : ℕ) → n ≤ 14 → refused_line n ≡ refused_line 10 → n ≡ 10
-refused_ten n h e = sym (read_back n h) ∙ ap told e ∙ read_back 10 (omega arith)
+same_line : (n k : ℕ) → n ≤ 18 → k ≤ 18 → refused_line n ≡ refused_line k → n ≡ k
+same_line n k h l e = sym (read_back n h) ∙ ap told e ∙ read_back k l
 
 -- an answer's text begins otherwise: with an a
 begins : List ℕ → ℕ
@@ -68,22 +68,31 @@ infeasible_begins : (k : Counts) → begins (infeasible_text k) ≡ 97
 unfolding begins infeasible_text answer_line ascii
 infeasible_begins k = refl
 
-refusal_begins : begins (refused_line 10) ≡ 114
+refusal_begins : (n : ℕ) → begins (refused_line n) ≡ 114
 unfolding begins refused_line ascii
-refusal_begins = refl
+refusal_begins n = refl
 
-outcome_long : (o : Option ℕ) (a : Answer) → ((n : ℕ) → o ≡ some n → n ≤ 9) → outcome_text o a ≡ refused_line 10 → ⊥
-unfolding outcome_text
-outcome_long (some n) a h e = let l = h n refl in omega (arith, refused_ten n (omega (arith, l)) e)
-outcome_long none (infeasible k) h e = omega (arith, sym (infeasible_begins k) ∙ ap begins e ∙ refusal_begins)
-outcome_long none (done R) h e = omega (arith, sym (answer_begins R R.flag refl) ∙ ap begins e ∙ refusal_begins)
+-- ---- refusals that no file has: 10 and 18
+module _ (k : ℕ) (above : 10 ≤ k) (most : k ≤ 18) (other : 11 ≤ k → k ≤ 14 → ⊥) where
+  outcome_other : (o : Option ℕ) (a : Answer) → ((n : ℕ) → o ≡ some n → n ≤ 9) → outcome_text o a ≡ refused_line k → ⊥
+  unfolding outcome_text
+  outcome_other (some n) a h e = let l = h n refl in omega (arith, above, same_line n k (omega (arith, l)) most e)
+  outcome_other none (infeasible c) h e = omega (arith, sym (infeasible_begins c) ∙ ap begins e ∙ refusal_begins k)
+  outcome_other none (done R) h e = omega (arith, sym (answer_begins R R.flag refl) ∙ ap begins e ∙ refusal_begins k)
 
-decoded_long : (s : List ℕ) (d : Decoded) → decode s ≡ d → decoded_text d ≡ refused_line 10 → ⊥
-unfolding decoded_text model_text
-decoded_long s (refusal n) p e = let l = reader_numbers s p in omega (arith, l, refused_ten n l.1 e)
-decoded_long s (file f) p e = outcome_long (call.refusal (model_in f) space) (presolve (model_in f)) (λ n q. long_numbers (model_in f) space (space_enough s f p) q) e
+  decoded_other : (s : List ℕ) (d : Decoded) → decode s ≡ d → decoded_text d ≡ refused_line k → ⊥
+  unfolding decoded_text model_text
+  decoded_other s (refusal n) p e = let l = reader_numbers s p in let i = same_line n k (omega (arith, l)) most e in other (omega (arith, l, i)) (omega (arith, l, i))
+  decoded_other s (file f) p e =
+      outcome_other (call.refusal (model_in f) space) (presolve (model_in f))
+      (λ n q. small_numbers (model_in f) space (omega (arith, (small s f p).vars)) (space_enough s f p) q) e
 
 -- whatever bytes a file has, it is not answered by refusal 10
 pub never_short : (s : List ℕ) → file_text s ≡ refused_line 10 → ⊥
 unfolding file_text
-never_short s e = decoded_long s (decode s) refl e
+never_short s e = decoded_other 10 (omega arith) (omega arith) (λ a b. omega (arith, a)) s (decode s) refl e
+
+-- nor by refusal 18
+pub never_long : (s : List ℕ) → file_text s ≡ refused_line 18 → ⊥
+unfolding file_text
+never_long s e = decoded_other 18 (omega arith) (omega arith) (λ a b. omega (arith, b)) s (decode s) refl e

@@ -17,10 +17,9 @@ use Rattle.rows_kept.specs.Statements.{All, no_one, each, Spans}
 use Rattle.rows_kept.proofs.Numbers.{finite_number}
 use Rattle.rows_kept.specs.NoNan.{Numbers}
 use Rattle.rows_kept.proofs.Theorems.{no_eq_rewritten, no_nan, no_nan_terms}
-use Rattle.definition.specs.Accepted.{accepted_shaped}
+use Rattle.definition.specs.Accepted.{accepted, accepted_shaped}
 use Rattle.refuse.specs.Laws.{none_below}
 use Rattle.refuse.specs.Rows.{neither, lengths_agree}
-use Rattle.refuse.specs.Accepted.{accepted}
 
 -- ---- every float that is printed of an answer: each variable's bounds, a rewritten row's right side, and the terms
 pub record Printable (M : Model) (R : Reduced) : Type 0 where

@@ -1,11 +1,12 @@
--- THE NUMBERS OF THE REFUSALS: the reader's go from 11 to 14, the table's up to 10, and up to 9 where no lent slice is too short.
-use Rattle.std.specs.Prelude.{ℕ, zero, suc, ◌≤◌, ◌≡◌, refl, Bool, true, false, List, [], ◌∷◌, Float}
+-- THE NUMBERS OF THE REFUSALS: the reader's go from 11 to 14, the table's up to 18, and up to 9 of a model that a file can have, where no lent slice is too short.
+use Rattle.std.specs.Prelude.{ℕ, zero, suc, ◌≤◌, ◌≡◌, refl, Bool, true, false, List, [], ◌∷◌, length, Float}
 use Rattle.std.proofs.Common.{arith, sym, ◌∙◌, true≢false}
 use Rattle.std.proofs.Math.Option.{Option, some, none-ne-some, some-injective}
 use Rattle.floats.specs.Num.{choose}
 use Rattle.definition.specs.Model.{Model}
 use Rattle.definition.specs.Refusal.{Lent, earliest}
 use Rattle.definition.specs.Refusal as call
+use Rattle.refuse.specs.Rows.{rows_short}
 use Rattle.rows_kept.specs.Statements.{All, no_one, each}
 use Rattle.model_file.specs.Format.{Got, refused, got, Parser, and_then, refuse, many, byte, number, float, optional, count, code, rules}
 use Rattle.model_file.specs.Format.{settings, values, variable, side, head, term, row, rows, end, whole, refusal, decoded, decode}
@@ -122,16 +123,34 @@ unfolding earliest
 earliest_numbers k {n = n} no_one e = absurd (none-ne-some n e)
 earliest_numbers k (each {x = c} h l) e = first_or k c.0 c.1 h (earliest_numbers k l) e
 
-table_up_to : (M : Model) (L : Lent) (k : ℕ) {n : ℕ} → 9 ≤ k → (call.too_short M L ≡ true → 10 ≤ k) → call.refusal M L ≡ some n → n ≤ k
+pub table_numbers : (M : Model) (L : Lent) {n : ℕ} → call.refusal M L ≡ some n → n ≤ 18
 unfolding call.refusal
-table_up_to M L k h short e =
-    earliest_numbers k
-    (each (λ q. omega arith) (each (λ q. omega arith) (each (λ q. omega arith) (each (λ q. omega arith) (each (λ q. omega arith)
-    (each (λ q. omega arith) (each (λ q. omega arith) (each (λ q. omega arith) (each (λ q. omega arith) (each short no_one))))))))))
+table_numbers M L e =
+    earliest_numbers 18
+    (each (λ q. omega arith) (each (λ q. omega arith) (each (λ q. omega arith) (each (λ q. omega arith) (each (λ q. omega arith) (each (λ q. omega arith)
+    (each (λ q. omega arith) (each (λ q. omega arith) (each (λ q. omega arith) (each (λ q. omega arith) (each (λ q. omega arith) no_one)))))))))))
     e
 
-pub table_numbers : (M : Model) (L : Lent) {n : ℕ} → call.refusal M L ≡ some n → n ≤ 10
-table_numbers M L e = table_up_to M L 10 (omega arith) (λ q. omega arith) e
+-- the earliest case is this one, or it does not apply and the earliest is a later one
+this_or : {P : Type 0} (m : ℕ) {n : ℕ} (b : Bool) (cs : List (ℕ × Bool)) → (b ≡ true → m ≡ n → P) → (b ≡ false → earliest cs ≡ some n → P)
+    → earliest ((m, b) ∷ cs) ≡ some n → P
+unfolding earliest choose
+this_or m {n} true cs now later e = now refl (some-injective m n e)
+this_or m false cs now later e = later refl e
 
-pub long_numbers : (M : Model) (L : Lent) {n : ℕ} → call.too_short M L ≡ false → call.refusal M L ≡ some n → n ≤ 9
-long_numbers M L l e = table_up_to M L 9 (omega arith) (λ q. absurd (true≢false (sym q ∙ l))) e
+-- at most 256 variables and room enough: no row is too long, since its indices rise, and the numbers go up to 9
+pub small_numbers : (M : Model) (L : Lent) {n : ℕ} → length M.obj ≤ 256 → call.too_short M L ≡ false → call.refusal M L ≡ some n → n ≤ 9
+unfolding call.refusal
+small_numbers M L {n} v l e =
+    this_or 1 (call.lengths_disagree M) _ (λ q i. omega (arith, i)) (λ q.
+    this_or 2 (call.too_large M) _ (λ q i. omega (arith, i)) (λ q.
+    this_or 3 (call.starts_wrong M) _ (λ q i. omega (arith, i)) (λ starts.
+    this_or 4 (call.indices_wrong M) _ (λ q i. omega (arith, i)) (λ indices.
+    this_or 18 (call.rows_long M) _ (λ q i. absurd (true≢false (sym q ∙ short starts indices))) (λ q.
+    earliest_numbers 9
+    (each (λ q. omega arith) (each (λ q. omega arith) (each (λ q. omega arith) (each (λ q. omega arith) (each (λ q. omega arith)
+    (each (λ q. absurd (true≢false (sym q ∙ l))) no_one)))))))))))
+    e
+  where
+    short : call.starts_wrong M ≡ false → call.indices_wrong M ≡ false → call.rows_long M ≡ false
+    short s i = rows_short M s i v

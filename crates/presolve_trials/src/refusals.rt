@@ -1,4 +1,6 @@
 // Refusals 3 to 9, what is just not refused, and which of several faults is named.
+ghost use Rattle.std.specs.Prelude.{◌≤◌};
+
 use crate::lend::{Packed, ask, sized};
 use std::io;
 
@@ -86,6 +88,55 @@ fn limits(rt: &impl Print, nan: f64) -> io::Result<()> {
     ask(rt, "nothing", sized(0, 0, 0, 1), nothing)
 }
 
+// One row of so many variables of this domain, from 0 to 1, each once with this coefficient, that add up to at most 1. The second
+// term's variable is told too, and which slice is one entry short.
+fn long(
+    rt: &impl Print,
+    terms: usize,
+    mode: u8,
+    domain: u8,
+    coeff: f64,
+    second: usize,
+    short: Option<usize>,
+) -> io::Result<()>
+    requires { terms ≤ 257 }
+{
+    let mut floats = [0.0; 1029];
+    let mut numbers = [0; 259];
+    let mut codes = [1; 258];
+    floats[2 * terms..].fill(1.0);
+    floats[3 * terms..4 * terms].fill(coeff);
+    numbers[1] = terms;
+    for (i, index) in numbers.iter_mut().skip(2).enumerate() {
+        *index = i;
+    }
+    numbers[3] = second;
+    codes[..terms].fill(domain);
+    let mut p = sized(terms, 1, terms, mode);
+    p.short = short;
+    p.spare = 0;
+    print!(rt; "{terms} terms, mode {mode}, domain {domain}, second {second}")?;
+    let m = Packed {
+        floats: &floats,
+        numbers: &numbers,
+        codes: &codes,
+    };
+    ask(rt, "", p, m)
+}
+
+// A row of 256 terms passes and one of 257 does not, zeros too; 18 is looked at after 4 and before 5 and 10.
+fn lengths(rt: &impl Print) -> io::Result<()> {
+    for mode in 0..3 {
+        long(rt, 256, mode, 2, 1.0, 1, None)?;
+        long(rt, 257, mode, 2, 1.0, 1, None)?;
+        long(rt, 257, mode, 2, 0.0, 1, None)?;
+    }
+    long(rt, 257, 1, 2, 1.0, 0, None)?;
+    long(rt, 257, 1, 3, 1.0, 1, None)?;
+    long(rt, 257, 3, 2, 1.0, 1, None)?;
+    long(rt, 257, 1, 2, 1.0, 1, Some(9))
+}
+
 // Fault k and all later ones. Fault 2 takes a large model, so here 2 is as 3.
 fn faults(rt: &impl Print, k: usize) -> io::Result<()> {
     let nan = f64::NAN;
@@ -127,5 +178,6 @@ pub(crate) fn all(rt: &impl Print) -> io::Result<()> {
     shapes(rt)?;
     numbers(rt, inf, nan)?;
     limits(rt, nan)?;
+    lengths(rt)?;
     ladder(rt)
 }

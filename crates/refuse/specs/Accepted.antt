@@ -1,60 +1,15 @@
 -- AN ACCEPTED CALL: no row of the table applies, so that the call is as the port's functions have it, and the lent slices have room.
-use Rattle.std.specs.Prelude.{ℕ, ◌+◌, ◌*◌, ◌≤◌, ◌≡◌, refl, Bool, true, false, ◌||◌, List, ◌∷◌, ltb, length}
+use Rattle.std.specs.Prelude.{ℕ, ◌+◌, ◌*◌, ◌≤◌, ◌≡◌, Bool, false, ◌||◌, ltb, length}
 use Rattle.std.proofs.Common.{add-one, arith, sym, ◌∙◌, ltb-false}
 use Rattle.std.proofs.Math.Option.{none}
-use Rattle.floats.specs.Num.{choose}
 use Rattle.definition.specs.Params.{params}
 use Rattle.definition.specs.Model.{Model, is_mip}
-use Rattle.definition.specs.Refusal.{Lent, floats_needed, numbers_needed, adjacency_needed, lengths_disagree, too_large, starts_wrong, indices_wrong}
-use Rattle.definition.specs.Refusal.{codes_wrong, bounds_wrong, numbers_wrong, rhses_wrong, tolerances_wrong, too_short, earliest, refusal}
-use Rattle.definition.specs.Accepted.{accepted_shaped}
+use Rattle.definition.specs.Refusal.{Lent, floats_needed, numbers_needed, adjacency_needed}
+use Rattle.definition.specs.Refusal.{too_short, refusal}
+use Rattle.definition.specs.Accepted.{accepted, accepted_shaped}
 use Rattle.space.specs.declared.Context.{Context}
 use Rattle.view.specs.Call.{Call}
 use Rattle.refuse.specs.Rows.{neither, lengths_agree, sizes_small}
-
-pub record Accepted (M : Model) (L : Lent) : Type 0 where
-  pub lengths : lengths_disagree M ≡ false
-  pub sizes : too_large M ≡ false
-  pub starts : starts_wrong M ≡ false
-  pub indices : indices_wrong M ≡ false
-  pub codes : codes_wrong M ≡ false
-  pub bounds : bounds_wrong M ≡ false
-  pub numbers : numbers_wrong M ≡ false
-  pub rhses : rhses_wrong M ≡ false
-  pub tolerances : tolerances_wrong M ≡ false
-  pub room : too_short M L ≡ false
-
-passes : (n : ℕ) (b : Bool) (cs : List (ℕ × Bool)) → earliest ((n, b) ∷ cs) ≡ none → (b ≡ false) × (earliest cs ≡ none)
-unfolding earliest choose
-passes n true cs e = absurd (let z : ◌≡◌ {A = ℕ} 0 1 = cc in omega arith)
-passes n false cs e = (refl, e)
-
--- THE TABLE PASSES A CALL only where each of its rows does
-pub accepted : (M : Model) (L : Lent) → refusal M L ≡ none → Accepted M L
-unfolding refusal
-accepted M L e =
-    let p1 = passes 1 (lengths_disagree M) _ e in
-    let p2 = passes 2 (too_large M) _ p1.1 in
-    let p3 = passes 3 (starts_wrong M) _ p2.1 in
-    let p4 = passes 4 (indices_wrong M) _ p3.1 in
-    let p5 = passes 5 (codes_wrong M) _ p4.1 in
-    let p6 = passes 6 (bounds_wrong M) _ p5.1 in
-    let p7 = passes 7 (numbers_wrong M) _ p6.1 in
-    let p8 = passes 8 (rhses_wrong M) _ p7.1 in
-    let p9 = passes 9 (tolerances_wrong M) _ p8.1 in
-    let p10 = passes 10 (too_short M L) _ p9.1 in
-    record {
-      lengths = p1.0;
-      sizes = p2.0;
-      starts = p3.0;
-      indices = p4.0;
-      codes = p5.0;
-      bounds = p6.0;
-      numbers = p7.0;
-      rhses = p8.0;
-      tolerances = p9.0;
-      room = p10.0;
-    }
 
 -- s has the model's scalars
 pub record Scalars (M : Model) (s : Context) : Type 0 where

@@ -8,14 +8,14 @@ use Rattle.std.specs.Float.{nan, inf, fin}
 use Rattle.std.specs.Float.Ieee.{up, down, eq, ne, neg, is_nan, of_bits}
 use Rattle.std.specs.Float.Ieee.Bits.{is_true}
 use Rattle.std.specs.Float.Ieee.Fits.{and_i}
-use borrow.Author.Tests.{ltb-false, eqb-true, not-false}
+use borrow.Author.Tests.{ltb-false, leb-false, le-ltb, eqb-true, not-false}
 use Rattle.floats.specs.Num.{∞f, -∞f, is_finite}
 use Rattle.std.specs.List.{list_any, zip}
 use Rattle.tolerances.specs.Tol.{valid_rhs}
 use Rattle.definition.specs.Model.{Model, from, upto, nnz, op_of, rhs_of}
 use Rattle.definition.specs.Refusal.{some_below, lengths_disagree, too_large, start_falls, starts_wrong, index_large, index_falls, row_unordered}
-use Rattle.definition.specs.Refusal.{indices_wrong, domain_wrong, cmp_wrong, codes_wrong, bound_wrong, bounds_wrong, obj_wrong, coeff_wrong, numbers_wrong, rhs_wrong, rhses_wrong}
-use Rattle.refuse.specs.Laws.{none_below, same_below, any_below, any_pair_below}
+use Rattle.definition.specs.Refusal.{indices_wrong, row_long, rows_long, domain_wrong, cmp_wrong, codes_wrong, bound_wrong, bounds_wrong, obj_wrong, coeff_wrong, numbers_wrong, rhs_wrong, rhses_wrong}
+use Rattle.refuse.specs.Laws.{none_below, none_passes, same_below, any_below, any_pair_below}
 
 -- ---- what the functions compute
 -- a value differs from itself at a NaN alone
@@ -156,3 +156,35 @@ module _ (M : Model) (r : ℕ) (s : Span M.starts M.index r) where
       let at : (k : ℕ) → k < n → get_or row k 0 ≡ get_or M.index (f + k) 0 = λ k l. get_or-take n (drop f M.index) k 0 l ∙ get_or-drop f M.index k 0 in
       e ∙ ap (λ (j : ℕ). some_below (λ k. leb (get_or row (k + 1) 0) (get_or row k 0)) (j - 1)) long
       ∙ same_below _ _ (n - 1) (λ k l. let up : f + (k + 1) ≡ suc (f + k) = omega arith in rw (at (k + 1) (omega arith), at k (omega arith), up) refl)
+
+-- 4: indices that are variables' and rise within a row are as many as there are variables, or fewer
+module _ (M : Model) (h : starts_wrong M ≡ false) (i : indices_wrong M ≡ false) (r : ℕ) (l : r < length M.rhs) where
+  ordered : some_below (index_falls M r) (nnz M r - 1) ≡ false
+  unfolding indices_wrong row_unordered
+  ordered = none_below (row_unordered M) (length M.rhs) r (neither (some_below (index_large M) (length M.index)) _ i).1 l
+
+  place_below : (k : ℕ) → k < nnz M r → k ≤ get_or M.index (from M r + k) 0
+  unfolding index_falls
+  place_below zero b = omega arith
+  place_below (suc k) b =
+      let up : get_or M.index (from M r + k) 0 < get_or M.index (suc (from M r + k)) 0 = leb-false _ _ (none_below (index_falls M r) (nnz M r - 1) k ordered (omega arith)) in
+      let next : suc (from M r + k) ≡ from M r + suc k = omega arith in
+      subst (λ (j : ℕ). suc k ≤ get_or M.index j 0) next (omega (arith, up, place_below k (omega arith)))
+
+  -- the last of them is a variable's
+  from_last : (n : ℕ) → nnz M r ≡ n → n ≤ length M.obj
+  unfolding indices_wrong index_large nnz from upto
+  from_last zero e = omega arith
+  from_last (suc k) e =
+      let s = span M h r l in
+      let b : get_or M.index (from M r + k) 0 < length M.obj = leb-false _ _ (none_below (index_large M) (length M.index) (from M r + k)
+      (neither (some_below (index_large M) (length M.index)) _ i).0 (omega (arith, e, s.rise, s.last))) in
+      omega (arith, b, place_below k (omega (arith, e)))
+
+  pub few_terms : nnz M r ≤ length M.obj
+  few_terms = from_last (nnz M r) refl
+
+-- so where there are at most 256 variables no row is too long
+pub rows_short : (M : Model) → starts_wrong M ≡ false → indices_wrong M ≡ false → length M.obj ≤ 256 → rows_long M ≡ false
+unfolding rows_long row_long
+rows_short M h i v = none_passes (row_long M) (length M.rhs) (λ r l. le-ltb 256 (nnz M r) (omega (arith, v, few_terms M h i r l)))

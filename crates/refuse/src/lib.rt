@@ -20,6 +20,9 @@ pub const MAX_ROWS: usize = 8192;
 
 pub const MAX_TERMS: usize = 65536;
 
+// The most terms that one row may have.
+pub const MAX_ROW_TERMS: usize = 256;
+
 // The lengths of the lent slices, of which C lends thirteen.
 #[derive(Clone, Copy)]
 pub struct Lent {
@@ -38,13 +41,14 @@ pub struct Lent {
     pub adjacency: usize,
 }
 
-// The rows of the table. Their numbers are the table's, which C is handed.
+// The rows of the table, in its order. Their numbers are the table's, which C is handed.
 #[derive(Clone, Copy, PartialEq, Eq, Debug)]
 pub enum Refusal {
     LengthsDisagree = 1,
     TooLarge = 2,
     StartsWrong = 3,
     IndicesWrong = 4,
+    RowsLong = 18,
     CodesWrong = 5,
     BoundsWrong = 6,
     NumbersWrong = 7,
@@ -61,7 +65,7 @@ impl From<Refusal> for u8 {
     }
 }
 
-// = refusal: the rows in their order, each looked at only where none before it applies. Ten blocks that are
+// = refusal: the rows in their order, each looked at only where none before it applies. Blocks that are
 // alike, as the table's rows are: a row relies on those before it, which `?` over a helper would hide.
 // Compiled into its caller, since what a call hands in goes by value.
 #[inline(always)]
@@ -79,6 +83,9 @@ pub fn refused(input: Input, lent: Lent) -> Result<(), Refusal>
     }
     if rows::indices_wrong(input) {
         return Err(Refusal::IndicesWrong);
+    }
+    if rows::rows_long(input) {
+        return Err(Refusal::RowsLong);
     }
     if rows::codes_wrong(input) {
         return Err(Refusal::CodesWrong);

@@ -2,13 +2,13 @@
 // rule out, and its `requires` says on which. Tests are joined by `|`, since no side can fail: each row is then its definition by computing. With `||`
 // each test was a branch of the proof, and more to read than this.
 // Three rows are marked to be compiled into `refused`: else they are handed the whole input through memory.
-ghost use Rattle.std.specs.Prelude.{◌≡◌, false, ◌+◌, ◌≤◌, length};
+ghost use Rattle.std.specs.Prelude.{◌≡◌, false, ◌+◌, ◌-◌, ◌≤◌, ltb, length};
 ghost use Rattle.definition.specs.Refusal as definition;
 ghost use Rattle.definition.specs.Refusal.{some_below, row_unordered};
 ghost use Rattle.definition.specs.Of.{input_model};
 ghost use Rattle.refuse.specs.Of.{lent_of};
 
-use crate::{Lent, MAX_ROWS, MAX_TERMS, MAX_VARS, lists};
+use crate::{Lent, MAX_ROW_TERMS, MAX_ROWS, MAX_TERMS, MAX_VARS, lists};
 use definition::Input;
 
 // = lengths_disagree: row starts have one entry more than there are rows.
@@ -70,6 +70,27 @@ pub(crate) fn indices_wrong(input: Input) -> bool
     ensures { result ≡ definition.indices_wrong (input_model input.entry) }
 {
     lists::index_large(input.rows.index, input.obj.len()) | some_row_unordered(input)
+}
+
+// = row_long, of a row that starts and ends there.
+fn row_long(from: usize, upto: usize) -> bool
+    ensures { result ≡ ltb 256 (upto - from) }
+{
+    upto.saturating_sub(from) > MAX_ROW_TERMS
+}
+
+// = rows_long. Where starts fall a row has no term, as in the definition, so this relies on no order.
+pub(crate) fn rows_long(input: Input) -> bool
+    requires { length input.rows.starts.now ≡ length input.rows.rhs.now + 1 }
+    ensures { result ≡ definition.rows_long (input_model input.entry) }
+{
+    let starts = input.rows.starts;
+    for r in 0..input.rows.rhs.len() {
+        if row_long(starts[r], starts[r + 1]) {
+            return true;
+        }
+    }
+    false
 }
 
 // = codes_wrong

@@ -26,6 +26,12 @@ indices_wrong-requires c = record {
 pub returns-then-indices_wrong : goal.returns-then-indices_wrong
 returns-then-indices_wrong c = search (by_table, skip, stop)
 
+pub rows_long-requires : goal.rows_long-requires
+rows_long-requires c = (lengths_agree _ (sym c.lengths_disagree.ensures ∙ c.if-lengths_disagree.false)).starts
+
+pub returns-then-rows_long : goal.returns-then-rows_long
+returns-then-rows_long c = search (by_table, skip, stop) depth 14
+
 pub codes_wrong-requires : goal.codes_wrong-requires
 codes_wrong-requires c = let g = lengths_agree _ (sym c.lengths_disagree.ensures ∙ c.if-lengths_disagree.false) in
     (g.domain, g.cmp)
