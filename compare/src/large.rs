@@ -100,15 +100,15 @@ fn rewrites(rng: &mut Rng) -> Model {
     m
 }
 
-// Sixteen rows of all the variables.
+// As many terms as a model may have, in rows of as many as a row may have.
 fn dense(rng: &mut Rng, mode: u8) -> Model {
     let mut m = Model::new(mode, 1e-6, 1e-9);
     for _ in 0..MAX_VARS {
         m.var(rng.below(3) as u8, 0.0, 1.0, -1.0);
     }
-    for _ in 0..16 {
-        let t: Vec<(usize, f64)> = (0..MAX_VARS).map(|v| (v, rng.whole(-2, 6))).collect();
-        let b = rng.whole(-100, 9000);
+    for k in 0..256 {
+        let t: Vec<(usize, f64)> = (0..256).map(|v| (k % 16 * 256 + v, rng.whole(-2, 6))).collect();
+        let b = rng.whole(-100, 560);
         m.row(&t, rng.pick(&[LE, GE]), b);
     }
     m
