@@ -1,5 +1,5 @@
 /* Presolves 3u + w <= 10, u yes or no, w a whole number from 0 to 8, by the structs of presolve_model.h, and prints the reduced
- * model. Then what is infeasible and what is refused.
+ * model. Then what is infeasible, what is refused, and whether plans are good.
  *
  *     tools/staticlib presolve_c
  *     cc -O2 -I include examples/model.c target/staticlib/libpresolve_c.a -o target/model && target/model
@@ -28,6 +28,15 @@ static void show(const char *name, const presolve_model *m, size_t bytes) {
         printf(", right side %.17g\n", result.rhs[i]);
     }
     for (size_t i = 0; i < result.kept; i++) printf("  row %zu is to be checked as it was written\n", result.kept_row[i]);
+}
+
+static void check(const char *name, const presolve_model *m, const double *plan) {
+    size_t place = 0;
+    double excursion = 0;
+    int code = presolve_check(m, plan, &place, &excursion);
+    printf("%s: %d, %s", name, code, presolve_plan_words(code));
+    if (code == PRESOLVE_PLAN_HOLDS || code >= PRESOLVE_PLAN_LOWER) printf(", place %zu, excursion %g", place, excursion);
+    printf("\n");
 }
 
 int main(void) {
@@ -62,6 +71,13 @@ int main(void) {
 
     presolve_model empty = {0};
     show("nothing at all", &empty, sizeof buffer);
+
+    check("3u + w <= 10, u 1 and w 7", &m, (const double[VARS]){1, 7});
+    check("u 1 and w 8", &m, (const double[VARS]){1, 8});
+    check("u 1 and w 9", &m, (const double[VARS]){1, 9});
+    check("u a half", &m, (const double[VARS]){0.5, 8});
+    wrong.vars = VARS;
+    check("int_tol 0.51", &wrong, (const double[VARS]){1, 7});
 
     presolve_lengths lengths = {2, 2, 2, 2, 2, 2, 2, 1, 1, 2, 2, 1, 1, 1, 1, 1, 1, 2, 2, 18, 26, 5, 9};
     printf("wrong slice: %s\n", presolve_wrong_slice(&lengths) ? presolve_wrong_slice(&lengths) : "none");

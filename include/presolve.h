@@ -56,6 +56,15 @@ enum {
     PRESOLVE_INFEASIBLE = 100
 };
 
+/* What a check of a plan returns where it is not refused: that all hold, or the first thing that the plan breaks. */
+enum {
+    PRESOLVE_PLAN_HOLDS = 0,
+    PRESOLVE_PLAN_LOWER = 101,
+    PRESOLVE_PLAN_UPPER = 102,
+    PRESOLVE_PLAN_NOT_WHOLE = 103,
+    PRESOLVE_PLAN_ROW = 104
+};
+
 /* Places in the answer's slice: five counts, then how much of the result slices is used, then the flag. */
 enum {
     PRESOLVE_ROWS_DROPPED = 0,
@@ -139,6 +148,34 @@ uint8_t suedeonyx_row_terms(
     const double *term_coeff, size_t term_coeff_len,
     uint8_t mark, size_t from, size_t upto,
     size_t *start, size_t *count);
+
+/* Whether a plan is good: one value for each variable of a model, given as for suedeonyx_presolve. Nothing is asked of the plan but
+ * its length and that its values are finite.
+ *
+ * Returns PRESOLVE_PLAN_HOLDS where the plan breaks nothing, else the first thing that it breaks: a bound, variable by variable and
+ * lower before upper (PRESOLVE_PLAN_LOWER, PRESOLVE_PLAN_UPPER); then a value that is not within int_tol of the nearest whole number, of
+ * two the lower, where one is needed (PRESOLVE_PLAN_NOT_WHOLE: Integer and Boolean, in both modes of Mip); then a row
+ * (PRESOLVE_PLAN_ROW). *place is that variable or row, 0 where all hold. *excursion is the largest by which any row is missed, 0 where
+ * none is: over all rows, a bound or a value being told too, and +infinity where a row's sum is not finite. Bounds and rows are held to
+ * the tolerances that presolve has for them.
+ *
+ * Returns 1 to 99 where the call is refused, and writes neither: by the table's earliest row that applies, where 1 is given of a plan
+ * of another length too, 7 of a value that is not finite too, and 10 never. place and excursion are each lent as a slice of one
+ * entry.
+ */
+uint8_t suedeonyx_check_plan(
+    const double *obj, size_t obj_len,
+    const double *lower, size_t lower_len,
+    const double *upper, size_t upper_len,
+    const uint8_t *domain, size_t domain_len,
+    const size_t *starts, size_t starts_len,
+    const size_t *index, size_t index_len,
+    const double *coeff, size_t coeff_len,
+    const uint8_t *cmp, size_t cmp_len,
+    const double *rhs, size_t rhs_len,
+    uint8_t mode, double feas, double int_tol,
+    const double *plan, size_t plan_len,
+    size_t *place, double *excursion);
 
 #ifdef __cplusplus
 }

@@ -42,6 +42,21 @@ unsafe extern "C" {
         mark: u8, from: usize, upto: usize,
         start: *mut usize, count: *mut usize,
     ) -> u8;
+
+    fn suedeonyx_check_plan(
+        obj: *const f64, obj_len: usize,
+        lower: *const f64, lower_len: usize,
+        upper: *const f64, upper_len: usize,
+        domain: *const u8, domain_len: usize,
+        starts: *const usize, starts_len: usize,
+        index: *const usize, index_len: usize,
+        coeff: *const f64, coeff_len: usize,
+        cmp: *const u8, cmp_len: usize,
+        rhs: *const f64, rhs_len: usize,
+        mode: u8, feas: f64, int_tol: f64,
+        plan: *const f64, plan_len: usize,
+        place: *mut usize, excursion: *mut f64,
+    ) -> u8;
 }
 
 /// `suedeonyx_presolve` on slices.
@@ -106,6 +121,31 @@ pub fn row_terms<'a>(
     (&vars[start..start + count], &coeffs[start..start + count])
 }
 
+/// `suedeonyx_check_plan` on slices: what it returns. `place` and `excursion` are as they were where the call is refused.
+#[allow(clippy::too_many_arguments)]
+pub fn check_plan(
+    obj: &[f64], lower: &[f64], upper: &[f64], domain: &[u8], starts: &[usize], index: &[usize], coeff: &[f64], cmp: &[u8], rhs: &[f64],
+    mode: u8, feas: f64, int_tol: f64, plan: &[f64], place: &mut usize, excursion: &mut f64,
+) -> u8 {
+    // Each pointer comes from a slice with its length; place and excursion are two numbers that can be written.
+    unsafe {
+        suedeonyx_check_plan(
+            obj.as_ptr(), obj.len(),
+            lower.as_ptr(), lower.len(),
+            upper.as_ptr(), upper.len(),
+            domain.as_ptr(), domain.len(),
+            starts.as_ptr(), starts.len(),
+            index.as_ptr(), index.len(),
+            coeff.as_ptr(), coeff.len(),
+            cmp.as_ptr(), cmp.len(),
+            rhs.as_ptr(), rhs.len(),
+            mode, feas, int_tol,
+            plan.as_ptr(), plan.len(),
+            place, excursion,
+        )
+    }
+}
+
 /// How many entries the working slices need, of a model of so many variables, rows and terms.
 pub const fn floats_needed(vars: usize, rows: usize, terms: usize) -> usize {
     4 * vars + 8 * rows + terms
@@ -163,6 +203,13 @@ pub const BAD_RHS: u8 = 8;
 pub const BAD_TOLERANCE: u8 = 9;
 pub const TOO_SHORT: u8 = 10;
 pub const INFEASIBLE: u8 = 100;
+
+/// What a check of a plan returns where it is not refused: that all hold, or the first thing that the plan breaks.
+pub const PLAN_HOLDS: u8 = 0;
+pub const PLAN_LOWER: u8 = 101;
+pub const PLAN_UPPER: u8 = 102;
+pub const PLAN_NOT_WHOLE: u8 = 103;
+pub const PLAN_ROW: u8 = 104;
 
 /// Places in the answer's slice: five counts, then how much of the result slices is used, then the flag.
 pub const ROWS_DROPPED: usize = 0;

@@ -166,6 +166,33 @@ static inline size_t presolve_terms(const presolve_model *m, const presolve_resu
     return result->upto[i] - result->from[i];
 }
 
+/* Checks a plan, a value for each variable: what suedeonyx_check_plan returns, PRESOLVE_PLAN_HOLDS where it breaks nothing. */
+static inline int presolve_check(const presolve_model *m, const double *plan, size_t *place, double *excursion) {
+    static const double no_floats[1] = {0};
+    static const size_t no_numbers[2] = {0, 0};
+    static const uint8_t no_codes[1] = {0};
+    const size_t n = m->vars, r = m->rows, t = m->terms;
+    /* no count may pass what a slice can have; the table's second row then says so */
+    if (n > PRESOLVE_MAX_VARS || r > PRESOLVE_MAX_ROWS || t > PRESOLVE_MAX_TERMS) return PRESOLVE_TOO_MANY;
+    return suedeonyx_check_plan(
+        m->objective ? m->objective : no_floats, n, m->lower ? m->lower : no_floats, n, m->upper ? m->upper : no_floats, n,
+        m->domain ? m->domain : no_codes, n, m->starts ? m->starts : no_numbers, r + 1, m->index ? m->index : no_numbers, t,
+        m->coeff ? m->coeff : no_floats, t, m->cmp ? m->cmp : no_codes, r, m->rhs ? m->rhs : no_floats, r, m->mode, m->feasibility,
+        m->int_tol, plan ? plan : no_floats, n, place, excursion);
+}
+
+/* What a plan breaks, by what the check returned. */
+static inline const char *presolve_plan_words(int code) {
+    switch (code) {
+    case PRESOLVE_PLAN_HOLDS: return "all hold";
+    case PRESOLVE_PLAN_LOWER: return "below a lower bound";
+    case PRESOLVE_PLAN_UPPER: return "above an upper bound";
+    case PRESOLVE_PLAN_NOT_WHOLE: return "not a whole number";
+    case PRESOLVE_PLAN_ROW: return "a row is missed";
+    default: return presolve_words(code);
+    }
+}
+
 /* The lengths that a call of presolve.h itself has, in its order. */
 typedef struct presolve_lengths {
     size_t obj, lower, upper, domain, starts, index, coeff, cmp, rhs;

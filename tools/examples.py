@@ -5,7 +5,7 @@ on and must print.
     tools/examples.py             writes the files
     tools/examples.py --check     says which files are not as they would be written; exit status 1 if there is one
 
-Written by hand: the texts of TEXTS, and examples/day-NN.expected, from the scope paper. From the reference with 02's W1
+Written by hand: the texts of TEXTS, the plans with what is said of them, and examples/day-NN.expected, from the scope paper. From the reference with 02's W1
 applied, by `compare/run file`: the other NAME.expected of a text. Nothing is taken from a run of the port.
 """
 import io
@@ -14,11 +14,13 @@ import sys
 from contextlib import redirect_stdout
 
 sys.dont_write_bytecode = True
+ROOT = os.path.normpath(os.path.join(os.path.dirname(os.path.abspath(__file__)), ".."))
+sys.path.append(os.path.join(ROOT, "tools", "command"))
 import damage
 import model
+import plan
 import week
 
-ROOT = os.path.normpath(os.path.join(os.path.dirname(os.path.abspath(__file__)), ".."))
 DAYS = ["day-%02d" % k for k in range(1, 13)]
 OUTSIDE = ["outside/" + name for name in ("largest-side", "last-sliver", "subnormal", "fold-overflows", "product-overflows")]
 BY_ONE = ["by-one/no-plan", "by-one/one-plan"]
@@ -94,6 +96,9 @@ def crates(made):
     yield "run_examples/stdout", stdout
     yield "presolve_main/stdin", made["day-01.model"]
     yield "presolve_main/stdout", texts["day-01.model"]
+    values = plan.read(content("examples", "week", "altered.plan"))
+    yield "presolve_plan/stdin", model.write_file(plan.in_place_of_objective(model.read_file(made["week/two-boxes.model"]), values))
+    yield "presolve_plan/stdout", content("examples", "week", "altered.check")
 
 
 def all_files():

@@ -4,6 +4,7 @@
 //   compare fixings SEED N            N small farm models with dual fixing on
 //   compare short                     all short models of four kinds
 //   compare refusals SEED N           N damaged calls, and calls past the maxima
+//   compare plans SEED N              N plans on models of the families, on damaged calls, and of one value alone
 //   compare limits SEED               models at the largest sizes, and of no size
 //   compare one FILE                  a saved model, the smallest of its file: both answers
 //   compare file                      a house file on standard input: what is to be printed of it
@@ -26,6 +27,8 @@ mod large;
 mod listed;
 mod model;
 mod part;
+mod plan;
+mod plans;
 mod points;
 mod port;
 mod refer;
@@ -66,6 +69,14 @@ fn selftest() -> ! {
         println!("{name}: found {} times in {} calls", run.seen.failed, run.seen.passed + run.seen.failed);
         is((run.seen.failed > 0) == (k < port::FAULTS.len()));
     }
+    let ways = [(usize::MAX, "no fault")].into_iter().chain(plan::FAULTS.into_iter().enumerate());
+    for (k, name) in ways {
+        plan::FAULT.store(k, Relaxed);
+        let mut plans = plans::Plans::new();
+        plans.many(1, 40_000);
+        println!("plans, {name}: found {} times in {}", plans.failed, plans.passed + plans.failed);
+        is((plans.failed > 0) == (k < plan::FAULTS.len()));
+    }
     for (name, way) in faulty::WAYS {
         let found = faulty::found(way, 4000);
         println!("points, {name}: found {found} times in 4000 models");
@@ -95,7 +106,7 @@ fn main() {
     let number = |i: usize, d: u64| args.get(i).and_then(|s| s.parse().ok()).unwrap_or(d);
     let seed = number(2, 1);
     let command = args.get(1).map_or("", |s| s.as_str());
-    if ["all", "families", "fixings", "short", "refusals", "limits", "one"].contains(&command) {
+    if ["all", "families", "fixings", "short", "refusals", "plans", "limits", "one"].contains(&command) {
         needs_library();
     }
     match command {
@@ -106,6 +117,7 @@ fn main() {
             run.fixings(seed, number(3, 1_000_000) / 10);
             run.refusals(seed, number(3, 1_000_000) / 5);
             run.limits(seed);
+            run.plans(seed, number(3, 1_000_000));
             run.finish();
         }
         "families" => {
@@ -127,6 +139,13 @@ fn main() {
             let mut run = Run::new(true);
             run.refusals(seed, number(3, 1000));
             run.finish();
+        }
+        "plans" => {
+            let mut plans = plans::Plans::new();
+            plans.many(seed, number(3, 1000));
+            print!("{}", plans.told());
+            println!("{} passed, {} failed", plans.passed, plans.failed);
+            std::process::exit((plans.failed > 0) as i32);
         }
         "limits" => {
             let mut run = Run::new(true);
@@ -164,7 +183,7 @@ fn main() {
             }
         }
         _ => {
-            eprintln!("usage: compare all|families|fixings|short|refusals|limits|one|file|sample|files|selftest|antt ..");
+            eprintln!("usage: compare all|families|fixings|short|refusals|plans|limits|one|file|sample|files|selftest|antt ..");
             std::process::exit(2);
         }
     }

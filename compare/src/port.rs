@@ -111,7 +111,7 @@ pub const NAME: &str = "the static library";
 #[cfg(port)]
 #[path = "../../include/presolve.rs"]
 #[allow(dead_code)]
-mod presolve;
+pub mod presolve;
 
 #[cfg(port)]
 impl Slices<'_> {

@@ -134,6 +134,19 @@ pub fn gives_reduced_model(m: &Input) -> bool {
     presolve::reduced_model(p).unwrap().is_some()
 }
 
+// The checks of one value and of one row, for plans.
+pub fn outside(value: f64, lo: f64, hi: f64, tol: f64) -> bool {
+    solver::outside(value, lo, hi, tol)
+}
+
+pub fn bound_tolerance(feas: f64, bound: f64) -> f64 {
+    solver::bound_tolerance(feas, bound)
+}
+
+pub fn row_violation(row: &Row, value: impl Fn(usize) -> f64, feas: f64) -> Option<f64> {
+    solver::row_violation(&row.0, row.1, row.2, value, feas)
+}
+
 // The notes of the last run, kept by thread: the counts where Infeasible was returned, the rows put out (number, rewritten)
 // and kept; and over all runs how often each line ran.
 #[derive(Clone, Default)]

@@ -4,6 +4,7 @@ use crate::cover::Cover;
 use crate::generate::{self, Rng, FAMILIES};
 use crate::listed::Listed;
 use crate::model::{Answer, Model};
+use crate::plans::Plans;
 use crate::refer::{caught, reduced_model_agrees, reference};
 use crate::refusal::{refusal, Sizes};
 use crate::table::thousands;
@@ -168,6 +169,14 @@ impl Run {
             let sizes = Sizes::least(&m);
             self.call(&format!("limits: {name}"), &m, &sizes, &mut rng);
         }
+    }
+    // Checks of plans, counted with the rest.
+    pub fn plans(&mut self, seed: u64, n: u64) {
+        let mut plans = Plans::new();
+        plans.many(seed, n);
+        print!("{}", plans.told());
+        self.seen.passed += plans.passed;
+        self.seen.failed += plans.failed;
     }
     pub fn finish(&self) -> ! {
         let s = &self.seen;

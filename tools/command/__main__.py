@@ -1,9 +1,10 @@
 """What ./presolve makes for people. Called by it alone:
 
     python3 -B tools/command --name NAME --form FORM --program-is KIND --versions TEXT [--raw] [--status] [--format F] FILE WORDS..
+    python3 -B tools/command --name NAME --form --check --plan PLAN .. FILE WORDS..
     python3 -B tools/command --name NAME --form where FILE NUMBER
 
-FORM is explain, --sheet, --why, --reduced, --json or --svg; WORDS start the program; NAME is what the user calls the input.
+FORM is explain, --sheet, --why, --reduced, --json, --svg or --check; WORDS start the program; NAME is what the user calls the input.
 Exit status as ./presolve --help says.
 """
 import json
@@ -16,6 +17,7 @@ sys.path[:0] = [HERE, os.path.dirname(HERE)]
 import facts
 import model
 import picture
+import plan
 import program
 import reduced
 import sheet
@@ -31,6 +33,7 @@ class Call:
 
     def __init__(self, words):
         self.name, self.form, self.kind, self.versions, self.format = "standard input", "explain", "quick", "", None
+        self.plan = None  # a file with one, of --check
         self.raw = self.status = False
         while words and words[0].startswith("--"):
             word = words.pop(0)
@@ -92,7 +95,31 @@ def read_model(call):
     return m
 
 
+def checked(call):
+    """Says whether a plan is good: the program's lines, and the same by name on standard error."""
+    with open(call.plan, "rb") as f:
+        text = f.read(MOST_TEXT + 1)
+    try:
+        values = plan.read(text)
+    except model.Fault as fault:
+        raise model.Fault("%s: %s" % (call.plan, fault)) from None
+    try:
+        m = read_model(call)
+    except model.Refused as refusal:
+        if refusal.number in model.OF_THE_READER:
+            raise
+        # a row of the table: whether an earlier one speaks of the plan, the program says
+        m = model.read_file(call.data)
+    printed = plan.said(m, values, program.Program(call.rest))
+    put(printed)
+    for line in plan.words(m, values, printed):
+        say("%s: %s" % (call.plan, line))
+    return DONE
+
+
 def respond(call):
+    if call.form == "--check":
+        return checked(call)
     m = read_model(call)
     run = program.Program(call.rest)
     printed = run.text(call.data)
@@ -147,6 +174,8 @@ def main(words):
             return NOT_WRITTEN
         for line in where.refused(call.name, call.data, refusal.number):
             say(line)
+        if call.form == "--check" and refusal.place and refusal.number not in model.OF_THE_READER:
+            say("%s: %s" % (call.plan, refusal.place))
         return REFUSED
     except program.NoAnswer as error:
         say(error)

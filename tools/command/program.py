@@ -20,8 +20,15 @@ class Program:
 
     def facts(self, m):
         """What presolve_facts prints, where it stands beside the program; else None."""
-        beside = os.path.join(os.path.dirname(self.words[-1]), "presolve_facts")
+        beside = self.beside("presolve_facts")
         return self.printed(self.words[:-1] + [beside], model.write_file(m)) if os.path.exists(beside) else None
+
+    def check(self, m):
+        """What presolve_plan prints of a model whose objective is a plan."""
+        return self.printed(self.words[:-1] + [self.beside("presolve_plan")], model.write_file(m))
+
+    def beside(self, name):
+        return os.path.join(os.path.dirname(self.words[-1]), name)
 
     @staticmethod
     def printed(words, data):

@@ -40,4 +40,11 @@ fn main() {
     wrong.lower.pop();
     show("and a lower bound too few", &wrong);
     show("nothing at all", &Model::default());
+
+    for plan in [[1.0, 7.0], [1.0, 8.0], [1.0, 9.0], [0.5, 8.0], [f64::NAN, 8.0]] {
+        match model.check(&plan) {
+            Err(refusal) => println!("{plan:?}: {refusal}"),
+            Ok(check) => println!("{plan:?}: {:?}, excursion {}", check.verdict, check.excursion),
+        }
+    }
 }

@@ -124,6 +124,24 @@ pub enum Presolved {
     Done(Reduced),
 }
 
+/// The first thing that a plan breaks, with its variable or row; or that it breaks nothing.
+#[derive(Clone, Copy, Debug, PartialEq, Eq)]
+pub enum Verdict {
+    Lower(usize),
+    Upper(usize),
+    NotWhole(usize),
+    Row(usize),
+    AllHold,
+}
+
+/// What is said of a plan.
+#[derive(Clone, Copy, Debug, PartialEq)]
+pub struct Check {
+    pub verdict: Verdict,
+    /// The largest of any row, 0 where no row is missed.
+    pub excursion: f64,
+}
+
 /// The number of a refusal.
 #[derive(Clone, Copy, Debug, PartialEq, Eq)]
 pub struct Refusal(pub u8);
@@ -216,5 +234,25 @@ impl Model {
         let rows = rows.collect();
         kept.truncate(answer[raw::KEPT]);
         Ok(Presolved::Done(Reduced { counts, reduced: answer[raw::REDUCED] != 0, lower, upper, rows, kept }))
+    }
+
+    /// Whether a plan, one value for each variable, is good: what it breaks first.
+    pub fn check(&self, plan: &[f64]) -> Result<Check, Refusal> {
+        let domain: Vec<u8> = self.domain.iter().map(|&d| d as u8).collect();
+        let cmp: Vec<u8> = self.cmp.iter().map(|&c| c as u8).collect();
+        let (mut place, mut excursion) = (0, 0.0);
+        let code = raw::check_plan(
+            &self.objective, &self.lower, &self.upper, &domain, &self.starts, &self.index, &self.coeff, &cmp, &self.rhs,
+            self.mode as u8, self.feasibility, self.int_tol, plan, &mut place, &mut excursion,
+        );
+        let verdict = match code {
+            raw::PLAN_HOLDS => Verdict::AllHold,
+            raw::PLAN_LOWER => Verdict::Lower(place),
+            raw::PLAN_UPPER => Verdict::Upper(place),
+            raw::PLAN_NOT_WHOLE => Verdict::NotWhole(place),
+            raw::PLAN_ROW => Verdict::Row(place),
+            refused => return Err(Refusal(refused)),
+        };
+        Ok(Check { verdict, excursion })
     }
 }

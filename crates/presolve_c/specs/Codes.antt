@@ -1,5 +1,5 @@
 -- THE CODE ALONE SAYS WHICH ANSWER IT IS: a refusal's number is that of a row of the table, from 1 to 99, so it is neither a model's code nor infeasible's.
-use Rattle.std.specs.Prelude.{ℕ, ◌≤◌, ◌≡◌, refl, ◌↔◌, Bool, true, false, List, ltb, length}
+use Rattle.std.specs.Prelude.{ℕ, ◌≤◌, ◌≡◌, refl, ◌↔◌, Bool, true, false, List, ltb, length, Float}
 use Rattle.std.proofs.Common.{arith, sym, ◌∙◌}
 use Rattle.std.proofs.Math.Path.{ap}
 use Rattle.std.proofs.Math.Option.{Option, none, some, none-ne-some, some-injective}
@@ -14,6 +14,7 @@ use Rattle.refuse.specs.declared.Refusal.{Refusal}
 use Rattle.refuse.specs.declared.Refusal.TheVariants.{LengthsDisagree, TooLarge, StartsWrong, IndicesWrong, RowsLong, CodesWrong, BoundsWrong, NumbersWrong, RhsesWrong}
 use Rattle.refuse.specs.declared.Refusal.TheVariants.{TolerancesWrong, TooShort}
 use Rattle.refuse.specs.Number.{number_of}
+use Rattle.plan.specs.Refusal.{plan_refusal}
 use Rattle.output.specs.Results.{Results, written}
 use Rattle.presolve.specs.Promise.{Working, lengths, outcome, results_after}
 use Rattle.presolve_c.specs.Face.{or_else, short_answer, face_refusal, code_of, flag_number, five_of, nine_of, numbers_of, FacePromise}
@@ -58,12 +59,19 @@ within RhsesWrong = omega arith
 within TolerancesWrong = omega arith
 within TooShort = omega arith
 
-in_range : {k : ℕ} → Named k → (1 ≤ k) × (k ≤ 99)
+pub in_range : {k : ℕ} → Named k → (1 ≤ k) × (k ≤ 99)
 in_range n = let w = within n.row in (omega (arith, w, n.is), omega (arith, w, n.is))
 
 pub numbered : (M : Model) (L : Lent) (n : ℕ) → Numbered (face_refusal M L n)
 unfolding face_refusal short_answer
 numbered M L n = numbered_else (refusal M L) (numbered_table M L) (numbered_row TooShort (ltb n 9) numbered_none)
+
+-- of a plan's table, which has no row about lent slices
+pub plan_numbered : (M : Model) (p : List Float) → Numbered (plan_refusal M p)
+unfolding plan_refusal earliest
+plan_numbered M p =
+    numbered_row LengthsDisagree _ (numbered_row TooLarge _ (numbered_row StartsWrong _ (numbered_row IndicesWrong _ (numbered_row RowsLong _ (numbered_row CodesWrong _
+    (numbered_row BoundsWrong _ (numbered_row NumbersWrong _ (numbered_row RhsesWrong _ (numbered_row TolerancesWrong _ numbered_none)))))))))
 
 -- ---- by the code
 pub record IsModel (r : Option ℕ) (a : definition.Answer) : Type 0 where

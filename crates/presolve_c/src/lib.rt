@@ -7,13 +7,16 @@ ghost use Rattle.presolve.specs.Promise.{working};
 ghost use Rattle.std.specs.Prelude.{◌≡◌};
 ghost use Rattle.row_terms.specs.Place.{place_of};
 ghost use Rattle.presolve_c.specs.Face.{FacePromise, place};
+ghost use Rattle.presolve_c.specs.PlanFace.{PlanPromise};
 
 use definition::{Input, Rows};
 use output::Results;
+use plan::check_plan;
 use presolve::Space;
 use row_terms::Span;
 
 mod tell;
+mod tell_plan;
 
 // `presolve::presolve`, its answer as a code and numbers, which go to `answer`. All parameters are loose, as C
 // hands them in. Not compiled into the wrapper that C calls: a small call takes longer so (docs/PERFORMANCE.md).
@@ -116,4 +119,54 @@ pub extern "C" fn suedeonyx_row_terms<'a>(
     *start = p.start;
     *count = p.count;
     p.rewritten
+}
+
+// `plan::check_plan`, its answer as a code, the variable or row that the code is about, and the excursion; a refusal writes
+// neither. All parameters are loose, as C hands them in.
+#[unsafe(no_mangle)]
+#[inline(never)]
+pub extern "C" fn suedeonyx_check_plan(
+    obj: &[f64],
+    lower: &[f64],
+    upper: &[f64],
+    domain: &[u8],
+    starts: &[usize],
+    index: &[usize],
+    coeff: &[f64],
+    cmp: &[u8],
+    rhs: &[f64],
+    mode: u8,
+    feas: f64,
+    int_tol: f64,
+    plan: &[f64],
+    place: &mut usize,
+    excursion: &mut f64,
+) -> u8
+    ensures { PlanPromise (model_of obj.now lower.now upper.now domain.now starts.now
+        index.now coeff.now cmp.now rhs.now mode feas int_tol) plan.now place.old excursion.old result place.new excursion.new }
+{
+    let input = Input {
+        obj,
+        lower,
+        upper,
+        domain,
+        rows: Rows {
+            starts,
+            index,
+            coeff,
+            cmp,
+            rhs,
+        },
+        mode,
+        feas,
+        int_tol,
+    };
+    match check_plan(input, plan) {
+        Err(refusal) => u8::from(refusal),
+        Ok(check) => {
+            *place = tell_plan::place(check.verdict);
+            *excursion = check.excursion;
+            tell_plan::code(check.verdict)
+        }
+    }
 }

@@ -8,6 +8,9 @@ use Rattle.std.specs.Float.Ieee.{to_bits}
 use Rattle.floats.specs.Num.{choose}
 use Rattle.print_result.specs.declared.Kind.{Kind}
 use Rattle.definition.specs.declared.Counts.{Counts}
+use Rattle.plan.specs.declared.Check.{Check}
+use Rattle.plan.specs.declared.Verdict.{Verdict}
+use Rattle.plan.specs.declared.Verdict.TheVariants.{Lower, Upper, NotWhole, Row, AllHold}
 use Rattle.print_result.specs.declared.Off.{Off}
 
 -- ---- characters
@@ -79,6 +82,20 @@ off_line k i = ascii "numbers" ++ (number k ++ (number i ++ newline))
 unfoldable pub numbers_text : Option Off → List ℕ
 numbers_text None = whole_line
 numbers_text (Some o) = off_line o.number o.place
+
+-- what a plan breaks first, or that it breaks nothing; and the largest excursion
+unfoldable pub verdict_line : Verdict → List ℕ
+verdict_line AllHold = ascii "plan holds\n"
+verdict_line (Lower v) = ascii "plan lower" ++ (number v ++ newline)
+verdict_line (Upper v) = ascii "plan upper" ++ (number v ++ newline)
+verdict_line (NotWhole v) = ascii "plan whole" ++ (number v ++ newline)
+verdict_line (Row r) = ascii "plan row" ++ (number r ++ newline)
+
+unfoldable pub excursion_line : Float → List ℕ
+excursion_line x = ascii "excursion" ++ (bits x ++ newline)
+
+unfoldable pub check_text : Check → List ℕ
+check_text c = verdict_line c.verdict ++ excursion_line c.excursion
 
 -- ---- lines of a kind
 -- k of them, from entry i on

@@ -9,11 +9,12 @@ mod rows;
 mod sink;
 
 ghost use Rattle.std.specs.Prelude.{◌≡◌, ℕ, List, length};
-ghost use Rattle.print_result.specs.Text.{answer_text, followed, refused_line, numbers_text};
+ghost use Rattle.print_result.specs.Text.{answer_text, followed, refused_line, numbers_text, check_text};
 ghost use Rattle.print_result.specs.Printing.{printed, outcome};
 
 use crate::sink::{Buffer, Count, Sink};
 use definition::Counts;
+use plan::Check;
 
 // What was answered. A kind beside the lists, and no enum that has them: print_answer promises its text
 // for every kind and all lists.
@@ -124,6 +125,14 @@ impl Text for Option<Off> {
     }
 }
 
+impl Text for Check {
+    ghost bytes = { check_text };
+
+    fn write<S: Sink>(&self, out: &mut S) {
+        lines::put_check(out, *self);
+    }
+}
+
 // Counts the text first, and writes it if it fits: how many bytes, or none where there is no room.
 fn print<T: Text>(text: &T, out: &mut [u8]) -> Option<usize>
     ensures { outcome result out.new ≡ printed (T.bytes text.now) out.old }
@@ -164,4 +173,11 @@ pub fn print_numbers(off: Option<Off>, out: &mut [u8]) -> Option<usize>
     ensures { outcome result out.new ≡ printed (numbers_text off) out.old }
 {
     print(&off, out)
+}
+
+// Prints what is said of a plan.
+pub fn print_check(check: Check, out: &mut [u8]) -> Option<usize>
+    ensures { outcome result out.new ≡ printed (check_text check) out.old }
+{
+    print(&check, out)
 }

@@ -1,11 +1,13 @@
 // The lines of the text but those of the rows.
 ghost use Rattle.std.specs.Prelude.{◌++◌, length};
 ghost use Rattle.print_result.specs.Text.{answer_line, counts_line, bound_line, bound_lines, validate_lines, refused_line, off_line, whole_line, number, newline};
+ghost use Rattle.print_result.specs.Text.{verdict_line, excursion_line, check_text};
 
 use crate::Kind;
 use crate::put::{put_float, put_number, put_text};
 use crate::sink::Sink;
 use definition::Counts;
+use plan::{Check, Verdict};
 
 #[tactic(auto, unfolding(crate::specs::Text::ascii, crate::specs::Text::answer_line))]
 pub(crate) fn put_kind<S: Sink>(out: &mut S, kind: Kind)
@@ -86,4 +88,32 @@ pub(crate) fn put_off<S: Sink>(out: &mut S, number: usize, place: usize)
     put_number(out, number);
     put_number(out, place);
     out.put(b'\n');
+}
+
+#[tactic(auto, unfolding(crate::specs::Text::ascii, crate::specs::Text::verdict_line))]
+fn put_verdict<S: Sink>(out: &mut S, verdict: Verdict)
+    ensures { S.wrote out.old (verdict_line verdict) out.new }
+{
+    match verdict {
+        Verdict::AllHold => put_text(out, b"plan holds\n"),
+        Verdict::Lower(v) => put_named(out, b"plan lower", v),
+        Verdict::Upper(v) => put_named(out, b"plan upper", v),
+        Verdict::NotWhole(v) => put_named(out, b"plan whole", v),
+        Verdict::Row(r) => put_named(out, b"plan row", r),
+    }
+}
+
+fn put_excursion<S: Sink>(out: &mut S, excursion: f64)
+    ensures { S.wrote out.old (excursion_line excursion) out.new }
+{
+    put_text(out, b"excursion");
+    put_float(out, excursion);
+    out.put(b'\n');
+}
+
+pub(crate) fn put_check<S: Sink>(out: &mut S, check: Check)
+    ensures { S.wrote out.old (check_text check) out.new }
+{
+    put_verdict(out, check.verdict);
+    put_excursion(out, check.excursion);
 }
