@@ -255,7 +255,7 @@ vars_start {s = s} {n = n} R =
 
 module _ {os : List Float} {lists : Lists} {s : Context} {v : ℕ} {changed : Bool} {f₀ f : Floats} {n₀ n : Numbers} (L : Vars os lists s v changed f₀ n₀ f n) where
   pub vars_turn : {f' : Floats} {n' : Numbers} {z : Bool} → v < s.vars → ActsBool (Fixing os lists) s f n f' n' z
-      (λ M w. dual_var M (map is_one n.bad_dec) (map is_one n.bad_inc) v w false) → FlagsKept n n' → Vars os lists s (v + 1) (changed || z) f₀ n₀ f' n'
+      (λ M w. dual_var M (map is_one n.bad_dec) (map is_one n.bad_inc) v w changed) → FlagsKept n n' → Vars os lists s (v + 1) z f₀ n₀ f' n'
   vars_turn {z = z} p a y =
       let dec = map is_one n₀.bad_dec in
       let inc = map is_one n₀.bad_inc in
@@ -264,20 +264,31 @@ module _ {os : List Float} {lists : Lists} {s : Context} {v : ℕ} {changed : Bo
       let b = rw (ed, ei) at a in
       record {
         upto = omega (arith, p);
-        ready = ready_changed L.ready b (var_keeps dec inc v false);
+        ready = ready_changed L.ready b (var_keeps dec inc v changed);
         kept = kept.flags_then L.kept y;
         left = λ M o k w q c h i.
             let l = L.left M o k w q c h i in
             record {
-              work = (dual_var M dec inc v l.work false).0;
+              work = (dual_var M dec inc v l.work changed).0;
               shows = b.does M o k l.work q c l.shows l.inv;
-              inv = inv_var dec inc v l.work false l.inv;
+              inv = inv_var dec inc v l.work changed l.inv;
               rest =
-                  ap (λ (y : Bool). dual_from M (s.vars - (v + 1)) dec inc (v + 1) (dual_var M dec inc v l.work false).0 (changed || y)) (sym (b.says M o k l.work q c l.shows l.inv))
-                  ∙ ap (λ (y : Work × Bool). dual_from M (s.vars - (v + 1)) dec inc (v + 1) y.0 y.1) (sym (var_before M dec inc v l.work changed))
+                  ap (dual_from M (s.vars - (v + 1)) dec inc (v + 1) (dual_var M dec inc v l.work changed).0) (sym (b.says M o k l.work q c l.shows l.inv))
                   ∙ from_next M (s.vars - (v + 1)) (s.vars - v) dec inc v (v + 1) l.work changed (omega (arith, p)) (add-one v) ∙ l.rest;
             };
       }
+
+  -- by what v changes of itself
+  pub vars_turn_own : {f' : Floats} {n' : Numbers} {z : Bool} → v < s.vars → ActsBool (Fixing os lists) s f n f' n' z
+      (λ M w. dual_var M (map is_one n.bad_dec) (map is_one n.bad_inc) v w false) → FlagsKept n n' → Vars os lists s (v + 1) (changed || z) f₀ n₀ f' n'
+  vars_turn_own {f'} {n'} {z} p a y =
+      let dec = map is_one n.bad_dec in
+      let inc = map is_one n.bad_inc in
+      vars_turn p
+      (record {
+        does = λ M o k w q c h i. subst (λ (u : Work × Bool). Shows M f' n' o u.0) (sym (var_before M dec inc v w changed)) (a.does M o k w q c h i);
+        says = λ M o k w q c h i. ap (λ (u : Work × Bool). u.1) (var_before M dec inc v w changed) ∙ ap (λ (u : Bool). changed || u) (a.says M o k w q c h i);
+      }) y
 
   pub vars_end : s.vars ≤ v → ActsBool (Fixing os lists) s f₀ n₀ f n changed (λ M w. dual_from M s.vars (map is_one n₀.bad_dec) (map is_one n₀.bad_inc) 0 w false)
   vars_end p =

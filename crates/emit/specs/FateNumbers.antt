@@ -42,21 +42,21 @@ rewrites Written = false
 rewrites Rewritten = true
 rewrites Dropped = false
 
-keeps_is : (n : ℕ) → keeps (fate_is n) ≡ is_kept n
+pub keeps_is : (n : ℕ) → keeps (fate_is n) ≡ is_kept n
 unfolding is_kept
 keeps_is zero = refl
 keeps_is (suc zero) = refl
 keeps_is (suc (suc zero)) = refl
 keeps_is (suc (suc (suc n))) = sym (lt-ltb 1 (suc (suc (suc n))) (omega arith))
 
-emits_is : (n : ℕ) → emits (fate_is n) ≡ is_out n
+pub emits_is : (n : ℕ) → emits (fate_is n) ≡ is_out n
 unfolding is_out
 emits_is zero = refl
 emits_is (suc zero) = refl
 emits_is (suc (suc zero)) = refl
 emits_is (suc (suc (suc n))) = rw (ne_eqb (suc (suc (suc n))) 1 (λ e. omega (arith, e)), ne_eqb (suc (suc (suc n))) 2 (λ e. omega (arith, e)))
 
-rewrites_is : (n : ℕ) → rewrites (fate_is n) ≡ is_rewritten n
+pub rewrites_is : (n : ℕ) → rewrites (fate_is n) ≡ is_rewritten n
 unfolding is_rewritten
 rewrites_is zero = refl
 rewrites_is (suc zero) = refl

@@ -105,7 +105,7 @@ pub fn forces(
     ensures { Reads (Looks lists.entry) cx (floats_of cx floats.now) (numbers_of cx numbers.now) result
         (λ M u. choose minCorner (definition.forces_min M r (row_of u r) act e u) (definition.forces_max M r (row_of u r) act e u)) }
 {
-    let x = readers::limits(lists.rows.starts, floats, cx, r);
+    let x = readers::written_limits(lists.rows.starts, floats, cx, r);
     if minCorner {
         if x.near_min(act) && e.ninf_l == 0 {
             let sliver = Sliver {

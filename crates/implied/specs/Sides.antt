@@ -169,7 +169,7 @@ module _ (upper : Bool) (r : ℕ) (row : Row) (side : Side) (c : Float) (t : Ter
 -- ---- a bound that leaves its variable as it is
 module _ {lists : Lists} {s : Context} {f : Floats} {n : Numbers} (upper : Bool) (r : ℕ) (x : Limits) (side : Side) (c : Float) (v : ℕ) (a rest : Float)
     {q : Float} {b : Bool} (eq : q ≡ quotient_of side.bound rest a) (eb : b ≡ bounds_above upper a) where
-  rest_still : Held a → SideStill lists.domain.now s f side v q b → Tries (BoundingRows lists) s f n f n (Ok tt) (λ M. from_rest M upper r (bare x) side c (term v a) (some rest))
+  pub rest_still : Held a → SideStill lists.domain.now s f side v q b → Tries (BoundingRows lists) s f n f n (Ok tt) (λ M. from_rest M upper r (bare x) side c (term v a) (some rest))
   rest_still ha t =
       record {
         does = λ M o k w p d h i.

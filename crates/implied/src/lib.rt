@@ -149,7 +149,7 @@ pub fn implied_bounds(
     ensures { Tries (BoundingRows lists.entry) cx (floats_of cx floats.entry.now) (numbers_of cx numbers.old)
         (floats_of cx floats.exit.now) (numbers_of cx numbers.new) result (λ M w. definition.implied_bounds M r (row_of w r) act (row_of w r).terms w) }
 {
-    let x = readers::limits(lists.rows.starts, floats, cx, r);
+    let x = readers::written_limits(lists.rows.starts, floats, cx, r);
     let a = lists.rows.starts[r];
     for i in 0..get::<Len>(numbers, cx, r) {
         let v = get::<Vars>(numbers, cx, a + i);

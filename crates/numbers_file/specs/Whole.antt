@@ -1,11 +1,12 @@
 -- THE LINE of a file: `refused` and its number where the reader refuses it; else whether its model is 01's farm model with a whole objective, or which
 -- condition fails first, and where.
-use Rattle.std.specs.Prelude.{ℕ, ◌≡◌, List, Result, Ok, Err, Some, None}
+use Rattle.std.specs.Prelude.{ℕ, ◌≡◌, refl, List, [], Float, Result, Ok, Err, Some, None}
 use Rattle.std.proofs.Common.{sym, ap, ◌∙◌}
 use Rattle.std.proofs.Math.Option as definition
 use Rattle.definition.specs.Model.{Model}
+use Rattle.definition.specs.Of.{model_of}
 use Rattle.whole_numbers.specs.Fault as test
-use Rattle.whole_numbers.specs.Of.{numbers_is, number}
+use Rattle.whole_numbers.specs.Of.{numbers_of, numbers_is, number}
 use Rattle.whole_numbers.specs.declared.Fault.{Fault}
 use Rattle.model_file.specs.Format.{Decoded, refusal, file, decode}
 use Rattle.print_result.specs.declared.Off.{Off}
@@ -26,6 +27,21 @@ decoded_numbers d = told model_line d
 
 unfoldable pub numbers_text : List ℕ → List ℕ
 numbers_text s = decoded_numbers (decode s)
+
+-- which is what presolve_facts writes: it reports by `model_line`
+pub report_numbers : (s : List ℕ) → told model_line (decode s) ≡ numbers_text s
+unfolding numbers_text decoded_numbers
+report_numbers s = refl
+
+-- 01's conditions look at neither the objective nor the comparisons; what the code answers, which asks the objective last, looks at no comparison
+module _ (obj lower upper : List Float) (domain starts index : List ℕ) (coeff : List Float) (cmp : List ℕ) (rhs : List Float) (mode : ℕ) (feas int_tol : Float) where
+  pub fault-of : test.fault (numbers_of lower upper domain starts index coeff rhs mode feas int_tol) ≡ test.fault (model_of obj lower upper domain starts index coeff cmp rhs mode feas int_tol)
+  unfolding test.fault test.conditions
+  fault-of = refl
+
+  pub told-of : test.told (model_of obj lower upper domain starts index coeff [] rhs mode feas int_tol) ≡ test.told (model_of obj lower upper domain starts index coeff cmp rhs mode feas int_tol)
+  unfolding test.told test.conditions
+  told-of = refl
 
 -- ---- what the code answers, and what it prints of it
 module _ {z : Result Unit Fault} {o : definition.Option (ℕ × ℕ)} (e : numbers_is z ≡ o) where

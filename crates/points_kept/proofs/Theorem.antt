@@ -13,9 +13,11 @@ use Rattle.definition.specs.Model.{Reduced, Answer, infeasible, done, Model}
 use Rattle.definition.specs.Work.{Work, Step, stop, next}
 use Rattle.definition.specs.Begin.{Bounds, cross, bounds, Rows, false_row, rows_are, crossed, round_from, read_from}
 use Rattle.definition.specs.Dual.{dual_fix}
+use Rattle.definition.specs.Rounds.{rounds}
 use Rattle.definition.specs.Presolve.{start, after_rounding, presolve, finish}
 use Rattle.points_kept.specs.Statements.{Point, MeetsReduced, PureInteger, Exact}
 use Rattle.definition.specs.Tests.{taking}
+use Rattle.points_kept.specs.Invariant.{GoodW}
 use Rattle.points_kept.proofs.Output.{not_zero, finish_ok}
 use Rattle.points_kept.specs.Output.{Keeps}
 use Rattle.points_kept.specs.Dominance.{Dominance, At, Dominating, KeptUpTo}
@@ -83,15 +85,24 @@ module _ (M : Model) (D : Dominance) (self : (x : ℕ → ℤ) → D x x) (pure 
 
 -- with dual fixing off, for any settings whose redundancy margin is 0 or more
 module _ (M : Model) (pure : PureInteger M) (one : M.mode ≡ 1) (margin : NonNeg M.params.redundant_margin) where
-  exact : (a : Answer) → KeptUpTo M Itself a → Exact M a
+  pub exact : (a : Answer) → KeptUpTo M Itself a → Exact M a
   exact (infeasible k) e = e
   exact (done R) e = λ z. ((e z).whole, λ x. ((e z).points x, λ p. let q = (e z).dominates x p in subst (MeetsReduced M R) q.2 q.1))
 
-  pub points_kept_by : Exact M (presolve M)
-  points_kept_by = exact (presolve M) (kept_up_to M Itself (λ x. refl) pure margin (λ two w d. absurd (off (sym one ∙ two))))
+  no_dual : M.mode ≡ 2 → (w : Work) → Dominating M Itself w → Dominating M Itself (dual_fix M w).0
+  no_dual two w d = absurd (off (sym one ∙ two))
     where
       off : ◌≡◌ {A = ℕ} 1 2 → ⊥
       off e = omega arith
+
+  -- from any state of the invariant, any number of rounds
+  pub from-good : (n : ℕ) (w : Work) → GoodW M (Point M) w → Exact M (finish M (rounds M n w))
+  from-good n w g =
+      exact (finish M (rounds M n w))
+      (finished M Itself (λ x. refl) pure (rounds M n w) (rounds_ok M Itself (λ x. refl) pure margin no_dual n w (inl (begins M Itself (λ x. refl) w g))))
+
+  pub points_kept_by : Exact M (presolve M)
+  points_kept_by = exact (presolve M) (kept_up_to M Itself (λ x. refl) pure margin no_dual)
 
 pub margin_ok : NonNeg params.redundant_margin
 unfolding le fits of_bits

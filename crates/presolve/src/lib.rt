@@ -11,6 +11,7 @@ mod zeros;
 pub use call::{lent_lengths, presolve, reduced_model};
 use definition::Counts;
 use output::Reduced;
+pub use zeros::clear;
 
 // The lent working slices. `SameSpace` is to them what `SameSlices` is to output's `Results`.
 #[derive(Drop)]

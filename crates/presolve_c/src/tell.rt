@@ -1,4 +1,4 @@
-// The answer as a code and numbers, as C is handed it: 0 a model, 100 infeasible, 1 to 10 a refusal. The code is C's byte.
+// The answer as a code and numbers, as C is handed it: 0 a model, 100 infeasible, 1 to 99 a refusal. The code is C's byte.
 ghost use Rattle.std.specs.Prelude.{◌≡◌, ◌≤◌, length};
 ghost use Rattle.std.proofs.Math.Option.{some};
 ghost use Rattle.definition.specs.Refusal.{refusal};

@@ -1,5 +1,5 @@
 -- WHAT IS PRINTED FOR A FILE: its bytes are decoded, the table of refusals is asked, the model is presolved, and the answer is put as text.
-use Rattle.std.specs.Prelude.{ℕ, ◌≤◌, ◌≡◌, Bool, true, false, List, ◌++◌, map, length, take}
+use Rattle.std.specs.Prelude.{ℕ, ◌≤◌, ◌≡◌, refl, Bool, true, false, List, ◌++◌, map, length, take}
 use Rattle.std.proofs.Common.{ap}
 use Rattle.std.proofs.Math.Option.{Option, none, some}
 use Rattle.definition.specs.declared.Counts.{Counts}
@@ -83,6 +83,11 @@ decoded_text d = told model_text d
 
 unfoldable pub file_text : List ℕ → List ℕ
 file_text s = decoded_text (decode s)
+
+-- which is what the programs write: they report by `model_text`
+pub report_text : (s : List ℕ) → told model_text (decode s) ≡ file_text s
+unfolding file_text decoded_text
+report_text s = refl
 
 -- what stands after 9,750 bytes changes nothing: a program may read that many and no more
 pub first_bytes_text : (n : ℕ) (s : List ℕ) → 9750 ≤ n → file_text (take n s) ≡ file_text s

@@ -79,6 +79,10 @@ whole_line = ascii "numbers whole\n"
 unfoldable pub off_line : ℕ → ℕ → List ℕ
 off_line k i = ascii "numbers" ++ (number k ++ (number i ++ newline))
 
+unfoldable pub numbers_line : ℕ → ℕ → List ℕ
+numbers_line k i = choose (eqb k 0) whole_line (off_line k i)
+
+-- the same of what the code is handed
 unfoldable pub numbers_text : Option Off → List ℕ
 numbers_text None = whole_line
 numbers_text (Some o) = off_line o.number o.place

@@ -9,7 +9,7 @@ use Rattle.std.proofs.Math.Decide.{dec_lt}
 use Rattle.floats.specs.Num.{choose}
 use Rattle.row_terms.specs.RowMark.{marked, is_rewritten_lem}
 use Rattle.row_terms.specs.Parts.{row_part}
-use Rattle.print_result.specs.Text.{digit, tens, decimal, hex_digits, each, from_to, written_line, rewritten_line, term_line, term_at, term_lines}
+use Rattle.print_result.specs.Text.{digit, tens, decimal, hex_digits, each, from_to, written_line, rewritten_line, term_line, term_at, term_lines, whole_line, off_line, numbers_line}
 use Rattle.print_result.specs.Text.{row_text, answer_line, counts_line, bound_lines, row_texts, validate_lines, followed, answer_text}
 use Rattle.print_result.specs.declared.Kind.{Kind}
 use Rattle.definition.specs.declared.Counts.{Counts}
@@ -154,6 +154,15 @@ module _ (r : ℕ) (rhs : Float) (from upto : ℕ) (index : List ℕ) (coeff : L
   pub row_written : mark ≡ 0 → written_line r ≡ row_text r mark rhs from upto index coeff
   unfolding row_text choose
   row_written e = rw (eq-eqb mark 0 e)
+
+-- ---- whether a model is 01's farm model with a whole objective: 0 stands for no condition that fails
+pub numbers_whole : {k : ℕ} (i : ℕ) → k ≡ 0 → whole_line ≡ numbers_line k i
+unfolding numbers_line choose
+numbers_whole {k} i e = rw (eq-eqb k 0 e)
+
+pub numbers_off : {k : ℕ} (i : ℕ) → (k ≡ 0 → ⊥) → off_line k i ≡ numbers_line k i
+unfolding numbers_line choose
+numbers_off {k} i e = rw (ne_eqb k 0 e)
 
 -- ---- the whole
 module _ (kind : Kind) (k : Counts) (vars : ℕ) (lower upper : List Float) (emitted : ℕ) (row : List ℕ) (rewritten : List ℕ) (rhs : List Float)

@@ -25,7 +25,22 @@ use Rattle.readers.specs.Reading.{ReadsF, ReadsM, Tells, Domains}
 pub domain_is : {ds : List ℕ} (v : ℕ) {z : Bool} → z ≡ int_domain (get_or ds v 0) → Tells (Domains ds) z (λ M. is_int_domain M v)
 domain_is v e = record { tells = λ M d. sym (int_domain_of M v) ∙ ap (λ (l : List ℕ). int_domain (get_or l v 0)) d.domain ∙ sym e }
 
--- ---- is_int: in Mip, not Real
+mip_is : (M : Model) (v : ℕ) {z : Bool} → is_mip M ≡ true → is_int_domain M v ≡ z → is_int M v ≡ z
+unfolding is_int
+mip_is M v a b = rw (a, b)
+
+lp_is : (M : Model) (v : ℕ) → is_mip M ≡ false → is_int M v ≡ false
+unfolding is_int
+lp_is M v a = rw a
+
+-- ---- is_int: in Mip what is_int_domain says, in Lp false
+pub int_mip : {ds : List ℕ} {s : Context} (v : ℕ) {z : Bool} → s.mip ≡ true → Tells (Domains ds) z (λ M. is_int_domain M v) → ReadsM (Domains ds) s z (λ M. is_int M v)
+int_mip v e t = record { reads = λ M d c. mip_is M v (sym c.mip ∙ e) (t.tells M d) }
+
+pub int_lp : {ds : List ℕ} {s : Context} (v : ℕ) → s.mip ≡ false → ReadsM (Domains ds) s false (λ M. is_int M v)
+int_lp v e = record { reads = λ M d c. lp_is M v (sym c.mip ∙ e) }
+
+-- by the number: in Mip, not Real
 unfoldable pub int_code : Bool → ℕ → Bool
 int_code mip d = mip && not (eqb d 1)
 

@@ -11,5 +11,5 @@ mod vars;
 pub use boxes::{Bounds, Emitted, Working};
 pub use coeffs::{place, row_coeff, written_coeff};
 pub use empty::{empty_row_violated, is_trivial, verdict};
-pub use rows::{activity, limits, limits_with_terms};
+pub use rows::{activity, limits, written_limits, written_terms};
 pub use vars::{bound_tol, emitted, is_int, is_int_domain};

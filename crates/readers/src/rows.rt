@@ -20,7 +20,7 @@ use formulas::{Ends, Limits, activity_step, no_activity};
 use space::{Coeffs, Context, Ehi, Elo, FoldScale, Hi, Len, Lo, Shift, Vars};
 
 // = nnz
-fn written_terms(starts: &[usize], r: usize) -> usize
+pub fn written_terms(starts: &[usize], r: usize) -> usize
     requires { SpanAt starts.now r }
     ensures { result ≡ get_or starts.now (r + 1) 0 - get_or starts.now r 0 }
 {
@@ -28,7 +28,7 @@ fn written_terms(starts: &[usize], r: usize) -> usize
 }
 
 // The row's four floats, and a count of terms: some of what reads them does not look at it.
-pub fn limits_with_terms(floats: &[f64], cx: Context, r: usize, terms: usize) -> Limits
+pub fn limits(floats: &[f64], cx: Context, r: usize, terms: usize) -> Limits
     requires { (r < cx.rows) × HoldsF cx floats.now }
     ensures { ReadsLimits cx (floats_of cx floats.now) r terms result }
 {
@@ -43,12 +43,12 @@ pub fn limits_with_terms(floats: &[f64], cx: Context, r: usize, terms: usize) ->
 }
 
 // The row's limits: with all terms that it has as written.
-pub fn limits(starts: &[usize], floats: &[f64], cx: Context, r: usize) -> Limits
+pub fn written_limits(starts: &[usize], floats: &[f64], cx: Context, r: usize) -> Limits
     requires r_lt_rows { (r < cx.rows) × HoldsF cx floats.now }
     requires span_at { SpanAt starts.now r }
     ensures { LimitsOf starts.now cx (floats_of cx floats.now) r result }
 {
-    limits_with_terms(floats, cx, r, written_terms(starts, r))
+    limits(floats, cx, r, written_terms(starts, r))
 }
 
 // Whether both emitted bounds of v are of usual size.

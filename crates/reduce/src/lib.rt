@@ -10,6 +10,7 @@ ghost use Rattle.reduce.specs.Reducing.{Called, Reduces, Adjoins};
 mod settle;
 
 use definition::{Infeasible, Input};
+pub use settle::settle_rows;
 use space::Context;
 use view::Lists;
 

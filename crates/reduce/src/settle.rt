@@ -59,7 +59,7 @@ fn settle_row(
 }
 
 // = settle_from, of all rows
-pub(crate) fn settle_rows(
+pub fn settle_rows(
     rows: Rows,
     floats: &mut [f64],
     numbers: &mut [usize],

@@ -14,7 +14,7 @@ use std::{env, io};
 // Of longer files the prefixes are not run.
 const PREFIXES: usize = 7000;
 
-fn run_file(rt: &(impl Print + AllocGlobal), file: &[u8]) -> io::Result<()> {
+fn run_file(rt: &impl Print, file: &[u8]) -> io::Result<()> {
     write_report::<Presolve, _>(file, &mut io::writer(rt))?;
     if file.len() <= PREFIXES {
         prefixes::print_prefixes(rt, file)?;
@@ -23,7 +23,7 @@ fn run_file(rt: &(impl Print + AllocGlobal), file: &[u8]) -> io::Result<()> {
 }
 
 // What a failed read is told with is this program's own.
-fn run_open(rt: &(impl Print + AllocGlobal), opened: &mut impl Read) -> io::Result<()> {
+fn run_open(rt: &impl Print, opened: &mut impl Read) -> io::Result<()> {
     let mut file = [0u8; FILE_BYTES];
     let read = standard_input::read_input(opened, &mut file);
     let n = read.map_err(|_| io::Error::other("run_examples: a file"))?;
@@ -31,7 +31,7 @@ fn run_open(rt: &(impl Print + AllocGlobal), opened: &mut impl Read) -> io::Resu
 }
 
 // A file that cannot be opened is named on standard error.
-fn run_path(rt: &(impl Files + Print + Eprint + AllocGlobal), path: &str) -> io::Result<()> {
+fn run_path(rt: &(impl Files + Print + Eprint), path: &str) -> io::Result<()> {
     println!(rt; "== {path}")?;
     match File::open(rt, path) {
         Ok(mut opened) => run_open(rt, &mut opened),

@@ -22,21 +22,21 @@ fn print_line(rt: &impl Print, n: usize, line: &[u8]) -> io::Result<()> {
     rt.print("\n")
 }
 
-// One prefix. last is the line that was printed last, before and after.
-fn print_prefix(rt: &impl Print, prefix: &[u8], last: &mut Vec<u8>) -> io::Result<()> {
+// One prefix. last begins with the line that was printed last, before and after; all of a text is kept
+// where its first line is printed, so no memory is asked for.
+fn print_prefix(rt: &impl Print, prefix: &[u8], last: &mut [u8; TEXT_BYTES]) -> io::Result<()> {
     let mut text = [0u8; TEXT_BYTES];
     presolve_file::file_text(prefix, &mut text);
     let line = first_line(&text);
-    if line != last.as_slice() {
+    if line != first_line(last) {
         print_line(rt, prefix.len(), line)?;
-        last.clear();
-        last.extend_from_slice(line)?;
+        *last = text;
     }
     Ok(())
 }
 
-pub(crate) fn print_prefixes(rt: &(impl Print + AllocGlobal), file: &[u8]) -> io::Result<()> {
-    let mut last = Vec::new(rt.alloc());
+pub(crate) fn print_prefixes(rt: &impl Print, file: &[u8]) -> io::Result<()> {
+    let mut last = [0u8; TEXT_BYTES];
     for n in 0..file.len() {
         print_prefix(rt, &file[..n], &mut last)?;
     }

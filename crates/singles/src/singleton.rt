@@ -37,7 +37,7 @@ fn singleton_int(
     ensures { Tries (Marks lists.entry) cx (floats_of cx floats.old) (numbers_of cx numbers.old)
         (floats_of cx floats.new) (numbers_of cx numbers.new) result (λ M u. definition.singleton_int M r (row_of u r) one.v one.a one.blo one.bhi u) }
 {
-    let x = readers::limits(lists.rows.starts, floats, cx, r);
+    let x = readers::written_limits(lists.rows.starts, floats, cx, r);
     let lo = x.new_lower(one.a, one.blo, space::get::<Elo>(floats, cx, one.v));
     let hi = x.new_upper(one.a, one.bhi, space::get::<Ehi>(floats, cx, one.v));
     if lo > hi {
@@ -53,7 +53,7 @@ fn singleton_misses(starts: &[usize], floats: &[f64], cx: Context, r: usize, one
     requires span_at { SpanAt starts.now r }
     ensures { ReadsRow (Spans starts.now) cx (floats_of cx floats.now) r result (λ M u. definition.singleton_misses M r (row_of u r) one.v one.a one.blo one.bhi u) }
 {
-    let x = readers::limits(starts, floats, cx, r);
+    let x = readers::written_limits(starts, floats, cx, r);
     x.misses(one.a, one.blo, one.bhi, readers::emitted(floats, cx, one.v))
 }
 
@@ -86,7 +86,7 @@ fn row_implied(floats: &[f64], cx: Context, r: usize, one: One) -> bool
     ensures { ReadsRow Any cx (floats_of cx floats.now) r result (λ M u. definition.lower_meets M (row_of u r) one.v one.a one.blo u && definition.upper_meets M (row_of u r) one.v one.a one.bhi u) }
 {
     // Neither test asks how many terms the row has.
-    let x = readers::limits_with_terms(floats, cx, r, 1);
+    let x = readers::limits(floats, cx, r, 1);
     let e = readers::emitted(floats, cx, one.v);
     x.lower_meets(one.a, one.blo, e) && x.upper_meets(one.a, one.bhi, e)
 }
@@ -117,7 +117,7 @@ pub fn singleton_row(
 {
     let i = lists.rows.starts[r];
     let a = space::get::<Coeffs>(floats, cx, i);
-    let x = readers::limits_with_terms(floats, cx, r, 1);
+    let x = readers::limits(floats, cx, r, 1);
     let one = One {
         v: space::get::<Vars>(numbers, cx, i),
         a,

@@ -182,11 +182,11 @@ module _ {P : Model → Type 0} {s : Context} (r : ℕ) {f : Floats} {n : Number
         row_looked M r w (ap (λ (b : Bool). b && get_or w.coeff_dirty r false) x ∙ y)) t
 
 -- ---- a change before is one after
-abbrev flag_or : Bool → Work × Bool → Work × Bool
+abbrev pub flag_or : Bool → Work × Bool → Work × Bool
 flag_or b y = (y.0, b || y.1)
 
 module _ (M : Model) (r : ℕ) (row : Row) (w : Work) where
-  form_before : (form : Form) (b : Bool) → tighten_form M form r row w b ≡ flag_or b (tighten_form M form r row w false)
+  pub form_before : (form : Form) (b : Bool) → tighten_form M form r row w b ≡ flag_or b (tighten_form M form r row w false)
   unfolding tighten_form
   form_before form true =
       let act = activity M w row true in
@@ -197,7 +197,7 @@ module _ (M : Model) (r : ℕ) (row : Row) (w : Work) where
       ∙ choose_map (flag_or true) b (w, false) (closed r (rewrite_loop M (length row.terms) form nz r 0 s))
   form_before form false = refl
 
-  by_before : (form : Form) (b : Bool) → tighten_by M form r row w b ≡ flag_or b (tighten_by M form r row w false)
+  pub by_before : (form : Form) (b : Bool) → tighten_by M form r row w b ≡ flag_or b (tighten_by M form r row w false)
   unfolding tighten_by
   by_before le_form b = form_before le_form b
   by_before ge_form b = form_before ge_form b

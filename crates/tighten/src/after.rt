@@ -64,7 +64,7 @@ fn rebound(
 
 // = row_after, of the live term t and its rewrite z, if it is rewritten. starts, floats, numbers, cx and r are every step's (space says why they
 // stay apart); form is the row's.
-pub(crate) fn row_after(
+pub fn row_after(
     starts: &[usize],
     floats: &mut [f64],
     numbers: &mut [usize],

@@ -14,6 +14,7 @@ mod bindings;
 mod rewriting;
 mod rows;
 
+pub use after::row_after;
 use definition::Activity;
 pub use rows::tighten_binary_coeffs;
 

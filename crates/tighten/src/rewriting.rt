@@ -64,7 +64,7 @@ fn rewrite_step(
     let p = lists.rows.starts[r] + i;
     let v = space::get::<Vars>(numbers, cx, p);
     let a = space::get::<Coeffs>(floats, cx, p);
-    let limits = readers::limits_with_terms(floats, cx, r, 0);
+    let limits = readers::limits(floats, cx, r, 0);
     let y = OneSided { limits, ..x };
     let Some(z) = coeffs::rewrite_term(y, lists.domain, floats, cx, v, a) else {
         return Some(Progress {

@@ -32,7 +32,7 @@ fn tighten_form(
         (λ M u. tighten_form M (form_is form) r (row_of u r) u false) }
 {
     let act = readers::activity::<Working>(lists.rows.starts, floats, numbers, cx, r);
-    let limits = readers::limits_with_terms(floats, cx, r, 0);
+    let limits = readers::limits(floats, cx, r, 0);
     let form = Some(form);
     let room = limits.vacuous_room(form, act);
     let x = OneSided {
@@ -63,7 +63,7 @@ fn tighten_alive(
         (λ M u. tighten_by M (form_of (row_of u r)) r (row_of u r) (looked r u) false) }
 {
     space::put::<CoeffDirty>(numbers, cx, r, 0);
-    let limits = readers::limits_with_terms(floats, cx, r, 0);
+    let limits = readers::limits(floats, cx, r, 0);
     match limits.form() {
         Some(form) => tighten_form(lists, floats, numbers, cx, r, form),
         None => false,

@@ -140,25 +140,32 @@ unfolding reached
 reached_ok true a t = absurd (let z : ◌≡◌ {A = ℕ} 0 1 = (let y = t in cc) in omega arith)
 reached_ok false a t = (refl, let y = t in cc)
 
-module _ {tol : Float} {l : ℕ} (x : Limits) (act : Activity) {a b : Bool} (p : Says tol l a (λ M r. above_hi M r (bare x) act)) (q : Says tol l b (λ M r. below_lo M r (bare x) act)) where
-  never_is : {M : Model} {r : ℕ} → Of M r tol l → unreachable M r (bare x) act ≡ (a || b)
+module _ {tol : Float} {l : ℕ} (x : Limits) (act : Activity) where
+  pub reach_never : {a b z : Bool} → Says tol l a (λ M r. above_hi M r (bare x) act) → Says tol l b (λ M r. below_lo M r (bare x) act) → z ≡ (a || b) → Says tol l z (λ M r. unreachable M r (bare x) act)
   unfolding unreachable
-  never_is {M} {r} o = sym (ap (λ (y : Bool). y || b) (p.of M r o) ∙ ap (λ (y : Bool). above_hi M r (bare x) act || y) (q.of M r o))
+  reach_never {a} {b} p q e =
+      record { of = λ M r o. e ∙ ap (λ (y : Bool). y || b) (p.of M r o) ∙ ap (λ (y : Bool). above_hi M r (bare x) act || y) (q.of M r o) }
 
-  pub reach_never : {e : Infeasible} → (a || b) ≡ true → Says tol l (Err e) (λ M r. reached (unreachable M r (bare x) act) (may_reduce M r (bare x) act))
-  unfolding reached
-  reach_never t = record { of = λ M r o. rw (never_is o ∙ t) }
-
-  pub reach_reduces : {c d g : Bool} → (a || b) ≡ false → Says tol l c (λ M r. near_min M r (bare x) act) → Says tol l d (λ M r. near_max M r (bare x) act) → g ≡ within (bare x) act
-      → Says tol l (Ok ((c || d) || g)) (λ M r. reached (unreachable M r (bare x) act) (may_reduce M r (bare x) act))
-  unfolding reached may_reduce
-  reach_reduces {c} {d} {g} t u v h =
+  pub reach_reduces : {a b d y z : Bool} → Says tol l a (λ M r. near_min M r (bare x) act) → Says tol l b (λ M r. near_max M r (bare x) act) → d ≡ within (bare x) act → y ≡ (a || b) → z ≡ (y || d)
+      → Says tol l z (λ M r. may_reduce M r (bare x) act)
+  unfolding may_reduce
+  reach_reduces {a} {b} {d} p q g e h =
       record {
         of = λ M r o.
-            rw (never_is o ∙ t)
-            (ap Ok (ap (λ (y : Bool). (y || d) || g) (u.of M r o) ∙ ap (λ (y : Bool). (near_min M r (bare x) act || y) || g) (v.of M r o)
-            ∙ ap (λ (y : Bool). (near_min M r (bare x) act || near_max M r (bare x) act) || y) h));
+            h ∙ ap (λ (u : Bool). u || d) (e ∙ ap (λ (u : Bool). u || b) (p.of M r o) ∙ ap (λ (u : Bool). near_min M r (bare x) act || u) (q.of M r o))
+            ∙ ap (λ (u : Bool). near_min M r (bare x) act || near_max M r (bare x) act || u) g;
       }
+
+  -- and of what is answered
+  module _ {a b : Bool} (p : Says tol l a (λ M r. above_hi M r (bare x) act)) (q : Says tol l b (λ M r. below_lo M r (bare x) act)) where
+    pub reach_err : {e : Infeasible} → (a || b) ≡ true → Says tol l (Err e) (λ M r. reached (unreachable M r (bare x) act) (may_reduce M r (bare x) act))
+    unfolding reached
+    reach_err t = record { of = λ M r o. rw (sym ((reach_never p q refl).of M r o) ∙ t) }
+
+    pub reach_ok : {c d g : Bool} → (a || b) ≡ false → Says tol l c (λ M r. near_min M r (bare x) act) → Says tol l d (λ M r. near_max M r (bare x) act) → g ≡ within (bare x) act
+        → Says tol l (Ok ((c || d) || g)) (λ M r. reached (unreachable M r (bare x) act) (may_reduce M r (bare x) act))
+    unfolding reached
+    reach_ok t u v h = record { of = λ M r o. rw (sym ((reach_never p q refl).of M r o) ∙ t) (ap Ok ((reach_reduces u v h refl refl).of M r o)) }
 
 -- ---- several_terms
 module _ {lists : Lists} {s : Context} {f : Floats} {n : Numbers} (r : ℕ) {act : Activity} {x : Limits} {l : ℕ} {y : Result Bool Infeasible} (al : Alive n r)

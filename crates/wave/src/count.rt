@@ -12,7 +12,7 @@ use space::{Context, Len};
 use view::Lists;
 
 // = by_count
-pub(crate) fn by_count(
+pub fn by_count(
     lists: Lists,
     floats: &mut [f64],
     numbers: &mut [usize],

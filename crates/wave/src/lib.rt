@@ -17,3 +17,4 @@ mod queue;
 mod several;
 
 pub use again::waves;
+pub use count::by_count;

@@ -115,7 +115,7 @@ pub(crate) fn several_terms(
 {
     let starts = lists.rows.starts;
     let act = readers::activity::<Working>(starts, floats, numbers, cx, r);
-    let x = readers::limits(starts, floats, cx, r);
+    let x = readers::written_limits(starts, floats, cx, r);
     let reduces = reach_of(x, act)?;
     match end_of(lists, floats, numbers, cx, r, x, act, reduces) {
         Ending::ForceMin => force_row(lists, floats, numbers, cx, r, true),

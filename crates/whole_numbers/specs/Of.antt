@@ -1,12 +1,32 @@
 -- What the code's conditions and answers are in the definition.
-use Rattle.std.specs.Prelude.{ℕ, ◌≡◌, ◌≤◌, ◌<◌, List, [], ◌∷◌, Option, Some, None, Result, Ok, Err}
+use Rattle.std.specs.Prelude.{ℕ, ◌≡◌, ◌≤◌, ◌<◌, List, [], ◌∷◌, Option, Some, None, Result, Ok, Err, Float}
 use Rattle.std.proofs.Math.Option as definition
+use Rattle.definition.specs.Params.{params}
 use Rattle.definition.specs.Model.{Model}
 use Rattle.whole_numbers.specs.Fault.{first, Condition}
 use Rattle.whole_numbers.specs.Fault.{domains, bounds, coefficients, right_sides, lengths, tolerances, mode, objective}
 use Rattle.whole_numbers.specs.declared.Condition as code
 use Rattle.whole_numbers.specs.declared.Condition.TheVariants.{Domains, Bounds, Coefficients, RightSides, Lengths, Tolerances, Mode, Objective}
 use Rattle.whole_numbers.specs.declared.Fault.{Fault}
+
+-- the model of these lists: 01's conditions look at nothing else of a model
+abbrev pub numbers_of : List Float → List Float → List ℕ → List ℕ → List ℕ → List Float → List Float → ℕ → Float → Float → Model
+numbers_of lower upper domain starts index coeff rhs mode feas int_tol =
+    record {
+      obj = [];
+      lower = lower;
+      upper = upper;
+      domain = domain;
+      starts = starts;
+      index = index;
+      coeff = coeff;
+      cmp = [];
+      rhs = rhs;
+      mode = mode;
+      feas = feas;
+      int_tol = int_tol;
+      params = params;
+    }
 
 -- a condition that the code names
 abbrev pub asked : Model → code.Condition → Condition

@@ -8,8 +8,8 @@ use Rattle.implied.specs.Loop.{implying_rows, implying_turn, implying_stop, impl
 use borrow.Author.Rules.{rules}
 use Rattle.implied.proofs.implied_bounds.Goals as goal
 
-pub limits-x-requires : goal.limits-x-requires
-limits-x-requires c = search (span_at, moves_spans)
+pub written_limits-x-requires : goal.written_limits-x-requires
+written_limits-x-requires c = search (span_at, moves_spans)
 
 pub overflow_add-a : goal.overflow_add-a
 overflow_add-a c = omega (
@@ -40,7 +40,7 @@ implied_term-requires-clause-ready c = turning_ready c.requires.ready c.loop-i.i
 pub returns-in_err-implied_term : goal.returns-in_err-implied_term
 returns-in_err-implied_term c =
     let p = err_from_is_err_and c.from_residual.result c.from_residual.ensures.1 in
-    rw p.1 (implying_stop moves_spans c.requires.r_lt_rows.0 c.requires.r_lt_rows.3 c.loop-i.invariant.2 c.limits-x.ensures.read
+    rw p.1 (implying_stop moves_spans c.requires.r_lt_rows.0 c.requires.r_lt_rows.3 c.loop-i.invariant.2 c.written_limits-x.ensures.read
     c.get-i-end.ensures c.loop-i-test.true c.get-v.ensures
     c.get-c.ensures (tries_is c.implied_term.ensures c.in_err-implied_term.was))
 
@@ -48,7 +48,7 @@ pub loop-i-preserved : goal.loop-i-preserved
 loop-i-preserved c = (
   omega (arith, c.implied_term.auto, c.loop-i.invariant.0),
   omega (arith, c.implied_term.auto, c.loop-i.invariant.1),
-  implying_turn moves_spans c.requires.r_lt_rows.0 c.requires.r_lt_rows.3 c.loop-i.invariant.2 c.limits-x.ensures.read
+  implying_turn moves_spans c.requires.r_lt_rows.0 c.requires.r_lt_rows.3 c.loop-i.invariant.2 c.written_limits-x.ensures.read
       c.get-i-end.ensures c.loop-i-test.true c.get-v.ensures
       c.get-c.ensures (tries_is c.implied_term.ensures c.in_ok-implied_term.was),
 )

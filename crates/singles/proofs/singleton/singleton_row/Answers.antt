@@ -23,7 +23,7 @@ singleton_bounds-requires c = record { r_lt_rows = (search rules, search (single
 
 pub returns-in_err-singleton_bounds : goal.returns-in_err-singleton_bounds
 returns-in_err-singleton_bounds c = tries_is (single_stop _ c.requires.r_lt_rows.0 c.requires.r_lt_rows.3 c.requires.r_lt_rows.4
-    c.get.ensures c.get-a.ensures c.limits_with_terms-x.ensures
+    c.get.ensures c.get-a.ensures c.limits-x.ensures
     c.lower_side.ensures c.upper_side.ensures
     (tries_is c.singleton_bounds.ensures c.in_err-singleton_bounds.was))
     (sym (stop_is c.from_residual.result c.from_residual.ensures.0))
@@ -41,6 +41,6 @@ singleton_drop-requires c = (
 
 pub returns : goal.returns
 returns c = single_goes _ c.requires.r_lt_rows.0 c.requires.r_lt_rows.3 c.requires.r_lt_rows.4 c.get.ensures
-    c.get-a.ensures c.limits_with_terms-x.ensures c.lower_side.ensures
+    c.get-a.ensures c.limits-x.ensures c.lower_side.ensures
     c.upper_side.ensures (tries_is c.singleton_bounds.ensures c.in_ok-singleton_bounds.was)
     c.singleton_drop.ensures

@@ -32,7 +32,7 @@ rewrite_term-requires c = (search (live_var, tightening_spans), search (domain_i
 
 pub returns-in_default : goal.returns-in_default
 returns-in_default c = step_keeps _ _ c.requires.r_lt_rows.0 c.requires.r_lt_rows.3 c.requires.r_lt_rows.4 c.get-v.ensures c.get-a.ensures _ _
-    (begun c.args.x.act false) c.limits_with_terms-limits.ensures (term_none (not_some _ c.in_default.not-Some) c.rewrite_term.ensures) refl refl
+    (begun c.args.x.act false) c.limits-limits.ensures (term_none (not_some _ c.in_default.not-Some) c.rewrite_term.ensures) refl refl
 
 pub row_after-requires : goal.row_after-requires
 row_after-requires c = record {
@@ -43,7 +43,7 @@ row_after-requires c = record {
     c.requires.r_lt_rows.3,
     c.requires.r_lt_rows.4,
     term_nonzero _ _ c.requires.r_lt_rows.0 c.requires.r_lt_rows.3 c.requires.r_lt_rows.4 c.get-v.ensures c.get-a.ensures _ _
-        (begun c.args.x.act false) c.limits_with_terms-limits.ensures (term_some c.in-Some.is c.rewrite_term.ensures) c.requires.ready,
+        (begun c.args.x.act false) c.limits-limits.ensures (term_some c.in-Some.is c.rewrite_term.ensures) c.requires.ready,
   );
   v_value = search rules;
   ready = search (ready_under, tightening_spans);
@@ -56,13 +56,13 @@ rewritten-requires c = record {
     omega arith,
     omega arith,
     after_live _ _ c.requires.r_lt_rows.0 c.requires.r_lt_rows.3 c.requires.r_lt_rows.4 c.get-v.ensures c.get-a.ensures _ _
-        (begun c.args.x.act false) c.limits_with_terms-limits.ensures (term_some c.in-Some.is c.rewrite_term.ensures) c.row_after.ensures c.requires.ready,
+        (begun c.args.x.act false) c.limits-limits.ensures (term_some c.in-Some.is c.rewrite_term.ensures) c.row_after.ensures c.requires.ready,
   );
   ready = after_ready _ _ c.requires.r_lt_rows.0 c.requires.r_lt_rows.3 c.requires.r_lt_rows.4 c.get-v.ensures c.get-a.ensures _ _
-      (begun c.args.x.act false) c.limits_with_terms-limits.ensures (term_some c.in-Some.is c.rewrite_term.ensures) c.row_after.ensures c.requires.ready;
+      (begun c.args.x.act false) c.limits-limits.ensures (term_some c.in-Some.is c.rewrite_term.ensures) c.row_after.ensures c.requires.ready;
 }
 
 pub returns : goal.returns
 returns c = step_rewrites _ _ c.requires.r_lt_rows.0 c.requires.r_lt_rows.3 c.requires.r_lt_rows.4 c.get-v.ensures c.get-a.ensures _ _
-    (begun c.args.x.act false) c.limits_with_terms-limits.ensures (term_some c.in-Some.is c.rewrite_term.ensures) c.row_after.ensures _ refl refl c.act_after-act.ensures
+    (begun c.args.x.act false) c.limits-limits.ensures (term_some c.in-Some.is c.rewrite_term.ensures) c.row_after.ensures _ refl refl c.act_after-act.ensures
     (c.rewritten.ensures c.args.x.act)

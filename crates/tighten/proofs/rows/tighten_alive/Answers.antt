@@ -13,7 +13,7 @@ tighten_form-requires c = record {
 }
 
 pub returns-in-Some : goal.returns-in-Some
-returns-in-Some c = alive_form _ c.put.ensures c.requires.r_lt_rows.3 c.limits_with_terms-limits.ensures c.form.ensures _ (ap maybe_form c.in-Some.is) c.tighten_form.ensures
+returns-in-Some c = alive_form _ c.put.ensures c.requires.r_lt_rows.3 c.limits-limits.ensures c.form.ensures _ (ap maybe_form c.in-Some.is) c.tighten_form.ensures
 
 pub returns-in-None : goal.returns-in-None
-returns-in-None c = alive_none _ c.put.ensures c.requires.r_lt_rows.3 c.limits_with_terms-limits.ensures c.form.ensures (ap maybe_form c.in-None.is)
+returns-in-None c = alive_none _ c.put.ensures c.requires.r_lt_rows.3 c.limits-limits.ensures c.form.ensures (ap maybe_form c.in-None.is)

@@ -7,13 +7,13 @@ use borrow.Author.Rules.{rules}
 use Rattle.tighten.proofs.rows.tighten_form.Goals as goal
 
 pub eligible-n-requires : goal.eligible-n-requires
-eligible-n-requires c = record { r_lt_rows = search rules; row_limits = row_limits c.limits_with_terms-limits.ensures; ready = search (ready_under, tightening_binaries) }
+eligible-n-requires c = record { r_lt_rows = search rules; row_limits = row_limits c.limits-limits.ensures; ready = search (ready_under, tightening_binaries) }
 
 pub get-len-requires : goal.get-len-requires
 get-len-requires c = search rules
 
 pub returns-then-spared : goal.returns-then-spared
-returns-then-spared c = form_spared _ _ c.requires.r_lt_rows.0 c.requires.r_lt_rows.3 c.activity-act.ensures c.limits_with_terms-limits.ensures
+returns-then-spared c = form_spared _ _ c.requires.r_lt_rows.0 c.requires.r_lt_rows.3 c.activity-act.ensures c.limits-limits.ensures
     c.vacuous_room-room.ensures c.eligible-n.ensures
     c.get-len.ensures c.spared.ensures c.if-spared.true
 
@@ -21,6 +21,6 @@ pub rewrite_loop-requires : goal.rewrite_loop-requires
 rewrite_loop-requires c = record { r_lt_rows = c.requires.r_lt_rows; ready = c.requires.ready }
 
 pub returns : goal.returns
-returns c = form_rewrites _ _ c.requires.r_lt_rows.0 c.requires.r_lt_rows.3 c.activity-act.ensures c.limits_with_terms-limits.ensures
+returns c = form_rewrites _ _ c.requires.r_lt_rows.0 c.requires.r_lt_rows.3 c.activity-act.ensures c.limits-limits.ensures
     c.vacuous_room-room.ensures c.eligible-n.ensures c.get-len.ensures c.spared.ensures
     c.if-spared.false c.rewrite_loop.ensures

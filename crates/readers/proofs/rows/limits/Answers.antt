@@ -1,6 +1,6 @@
 -- `limits` reads the row's four floats.
 use Rattle.readers.specs.Limits.{limits_read}
-use Rattle.readers.proofs.rows.limits_with_terms.Goals as goal
+use Rattle.readers.proofs.rows.limits.Goals as goal
 
 pub returns : goal.returns
 returns c = search limits_read
