@@ -141,7 +141,8 @@ reached_ok true a t = absurd (let z : ◌≡◌ {A = ℕ} 0 1 = (let y = t in cc
 reached_ok false a t = (refl, let y = t in cc)
 
 module _ {tol : Float} {l : ℕ} (x : Limits) (act : Activity) where
-  pub reach_never : {a b z : Bool} → Says tol l a (λ M r. above_hi M r (bare x) act) → Says tol l b (λ M r. below_lo M r (bare x) act) → z ≡ (a || b) → Says tol l z (λ M r. unreachable M r (bare x) act)
+  pub reach_never : {a b z : Bool} → Says tol l a (λ M r. above_hi M r (bare x) act) → Says tol l b (λ M r. below_lo M r (bare x) act) → z ≡ (a || b)
+      → Says tol l z (λ M r. unreachable M r (bare x) act)
   unfolding unreachable
   reach_never {a} {b} p q e =
       record { of = λ M r o. e ∙ ap (λ (y : Bool). y || b) (p.of M r o) ∙ ap (λ (y : Bool). above_hi M r (bare x) act || y) (q.of M r o) }
